@@ -1,0 +1,52 @@
+-- The cases of the definitions, in the shape in which needs ask for them.
+use Prim.Native.Nat.{ℕ, _*_, _/_, _^_, _<_, _≤_}
+use mathlib.Core.Path.{_≡_, refl, sym, subst, _∙_}
+use mathlib.Core.Bool.{Bool, true, false, not}
+use native.Mathlib.Nat.{le-div-iff-mul-le, div-lt-iff-lt-mul}
+use native.Mathlib.Omega.{arith}
+use borrow.Author.Needs.{needs}
+use borrow.Author.Tests.{lt-ltb, le-leb, lt-leb}
+use lib.Dec.{T}
+use lib.IntN.{ℤ, pos}
+use lib.Ieee.{Float, nan, inf, fin, binary64, lt, isNan, sub, mul, ofInt}
+use Rattle.octets.specs.Numbers.{natural}
+use Rattle.doubles.specs.Doubles.{positive, near, measures}
+
+-- what tests as a NaN is the one NaN
+pub is-nan : (x : Float) → isNan x ≡ true → nan ≡ x
+unfolding isNan
+is-nan nan e = refl
+is-nan (inf s) e = absurd (subst T (sym e) tt)
+is-nan (fin s m k) e = absurd (subst T (sym e) tt)
+
+-- a positive double is no NaN, so its pattern may be taken
+pub no-nan : (x : Float) (b : Bool) → b ≡ positive x → b ≡ true → T (not (isNan x))
+unfolding positive lt isNan
+no-nan nan b e f = subst T (sym f ∙ e) tt
+no-nan (inf s) b e f = tt
+no-nan (fin s m k) b e f = tt
+
+-- the bound on a product, by a division
+pub bounded : (n m : ℕ) → (m ≡ 0 → ⊥) → n ≤ 2 ^ 53 / m → n * m ≤ 2 ^ 53
+bounded n m h l = le-div-iff-mul-le {k = m} (omega arith) .0 l
+
+-- `measures`, of the natural numbers n and m that the code takes from the two counts
+module _ (low high pixel : Float) (count size : ℤ) (n m : ℕ) (e : n ≡ natural count) (f : m ≡ natural size) where
+  pub no-count : n ≡ 0 → false ≡ measures low high count size pixel
+  unfolding measures
+  no-count h = rw (← e, h)
+
+  pub no-size : (n ≡ 0 → ⊥) → m ≡ 0 → false ≡ measures low high count size pixel
+  unfolding measures
+  no-size p h = rw (← e, ← f, lt-ltb 0 n (omega arith), h)
+
+  pub too-many : (n ≡ 0 → ⊥) → (m ≡ 0 → ⊥) → 2 ^ 53 / m < n → false ≡ measures low high count size pixel
+  unfolding measures
+  too-many p q h = rw (← e, ← f, lt-ltb 0 n (omega arith), lt-ltb 0 m (omega arith), lt-leb (n * m) (2 ^ 53) (div-lt-iff-lt-mul {k = m} (omega arith) .0 h))
+
+  pub in-bound : (n ≡ 0 → ⊥) → (m ≡ 0 → ⊥) → n ≤ 2 ^ 53 / m
+      → (b : Bool) → b ≡ near (sub binary64 high low) (mul binary64 (ofInt binary64 (pos (n * m))) pixel) → b ≡ measures low high count size pixel
+  unfolding measures
+  in-bound p q h b k = k ∙ rw (← e, ← f, lt-ltb 0 n (omega arith), lt-ltb 0 m (omega arith), le-leb (n * m) (2 ^ 53) (bounded n m q h))
+
+pub ruleset measuring = (no-count, no-size, too-many, in-bound, needs)

@@ -1,0 +1,9 @@
+pub mod Findings
+pub mod Answers
+pub mod Words
+pub mod BothSides
+pub mod Readings
+pub mod FindingLaws
+pub mod OrderLaws
+pub mod VerdictLaws
+pub mod LookupLaws

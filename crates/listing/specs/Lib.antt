@@ -1,0 +1,4 @@
+pub mod Listing
+pub mod Refusals
+pub mod RefusalLaws
+pub mod ListingLaws

@@ -1,0 +1,226 @@
+// The reader of a listing: refused under one reason, or its seven tables.
+ghost use mathlib.Core.Path.{_≡_};
+ghost use Prim.Native.Nat.{_+_, _<_};
+ghost use Rattle.listing.specs.Listing.{count, offset};
+
+mod header;
+mod refusals;
+mod rows;
+
+use header::count_of;
+pub use header::most_of;
+use header::offset_of;
+pub use header::row_of;
+pub use header::table_of;
+pub use refusals::accept;
+pub use rows::first_bad_contents;
+pub use rows::first_bad_row;
+pub use rows::rows_of;
+
+// Each table knows the octets of its row and its most rows. What the header says of it: how many rows, and where.
+pub struct ReferenceTable {
+    pub count: u32,
+    pub offset: u32,
+}
+
+impl ReferenceTable {
+    pub const ROW: u8 = 32;
+
+    pub const MOST: u32 = 256;
+
+    pub fn new(count: u32, offset: u32) -> Self
+        ensures { λ r. ⌜ (r .count ≡ count) × (r .offset ≡ offset) ⌝ }
+    {
+        Self { count, offset }
+    }
+
+    // As the header has it.
+    pub fn read(s: &[u8]) -> Self
+        ensures { λ r. ⌜ (r .count ≡ count (now (s .entry)) 1) × (r .offset ≡ offset (now (s .entry)) 1) ⌝ }
+    {
+        Self::new(count_of(s, 1), offset_of(s, 1))
+    }
+}
+
+pub struct ContentsTable {
+    pub count: u32,
+    pub offset: u32,
+}
+
+impl ContentsTable {
+    pub const ROW: u8 = 40;
+
+    pub const MOST: u32 = 256;
+
+    pub fn new(count: u32, offset: u32) -> Self
+        ensures { λ r. ⌜ (r .count ≡ count) × (r .offset ≡ offset) ⌝ }
+    {
+        Self { count, offset }
+    }
+
+    // As the header has it.
+    pub fn read(s: &[u8]) -> Self
+        ensures { λ r. ⌜ (r .count ≡ count (now (s .entry)) 2) × (r .offset ≡ offset (now (s .entry)) 2) ⌝ }
+    {
+        Self::new(count_of(s, 2), offset_of(s, 2))
+    }
+}
+
+pub struct SetTable {
+    pub count: u32,
+    pub offset: u32,
+}
+
+impl SetTable {
+    pub const ROW: u8 = 48;
+
+    pub const MOST: u32 = 256;
+
+    pub fn new(count: u32, offset: u32) -> Self
+        ensures { λ r. ⌜ (r .count ≡ count) × (r .offset ≡ offset) ⌝ }
+    {
+        Self { count, offset }
+    }
+
+    // As the header has it.
+    pub fn read(s: &[u8]) -> Self
+        ensures { λ r. ⌜ (r .count ≡ count (now (s .entry)) 3) × (r .offset ≡ offset (now (s .entry)) 3) ⌝ }
+    {
+        Self::new(count_of(s, 3), offset_of(s, 3))
+    }
+}
+
+pub struct MatrixTable {
+    pub count: u32,
+    pub offset: u32,
+}
+
+impl MatrixTable {
+    pub const ROW: u8 = 64;
+
+    pub const MOST: u32 = 4096;
+
+    pub fn new(count: u32, offset: u32) -> Self
+        ensures { λ r. ⌜ (r .count ≡ count) × (r .offset ≡ offset) ⌝ }
+    {
+        Self { count, offset }
+    }
+
+    // As the header has it.
+    pub fn read(s: &[u8]) -> Self
+        ensures { λ r. ⌜ (r .count ≡ count (now (s .entry)) 4) × (r .offset ≡ offset (now (s .entry)) 4) ⌝ }
+    {
+        Self::new(count_of(s, 4), offset_of(s, 4))
+    }
+}
+
+pub struct TileTable {
+    pub count: u32,
+    pub offset: u32,
+}
+
+impl TileTable {
+    pub const ROW: u8 = 32;
+
+    pub const MOST: u32 = 262144;
+
+    pub fn new(count: u32, offset: u32) -> Self
+        ensures { λ r. ⌜ (r .count ≡ count) × (r .offset ≡ offset) ⌝ }
+    {
+        Self { count, offset }
+    }
+
+    // As the header has it.
+    pub fn read(s: &[u8]) -> Self
+        ensures { λ r. ⌜ (r .count ≡ count (now (s .entry)) 5) × (r .offset ≡ offset (now (s .entry)) 5) ⌝ }
+    {
+        Self::new(count_of(s, 5), offset_of(s, 5))
+    }
+}
+
+pub struct ExtensionTable {
+    pub count: u32,
+    pub offset: u32,
+}
+
+impl ExtensionTable {
+    pub const ROW: u8 = 32;
+
+    pub const MOST: u32 = 1024;
+
+    pub fn new(count: u32, offset: u32) -> Self
+        ensures { λ r. ⌜ (r .count ≡ count) × (r .offset ≡ offset) ⌝ }
+    {
+        Self { count, offset }
+    }
+
+    // As the header has it.
+    pub fn read(s: &[u8]) -> Self
+        ensures { λ r. ⌜ (r .count ≡ count (now (s .entry)) 6) × (r .offset ≡ offset (now (s .entry)) 6) ⌝ }
+    {
+        Self::new(count_of(s, 6), offset_of(s, 6))
+    }
+}
+
+pub struct NameTable {
+    pub count: u32,
+    pub offset: u32,
+}
+
+impl NameTable {
+    pub const ROW: u8 = 1;
+
+    pub const MOST: u32 = 1048576;
+
+    pub fn new(count: u32, offset: u32) -> Self
+        ensures { λ r. ⌜ (r .count ≡ count) × (r .offset ≡ offset) ⌝ }
+    {
+        Self { count, offset }
+    }
+
+    // As the header has it.
+    pub fn read(s: &[u8]) -> Self
+        ensures { λ r. ⌜ (r .count ≡ count (now (s .entry)) 7) × (r .offset ≡ offset (now (s .entry)) 7) ⌝ }
+    {
+        Self::new(count_of(s, 7), offset_of(s, 7))
+    }
+}
+
+pub struct Layout {
+    pub references: ReferenceTable,
+    pub contents: ContentsTable,
+    pub sets: SetTable,
+    pub matrices: MatrixTable,
+    pub tiles: TileTable,
+    pub extensions: ExtensionTable,
+    pub names: NameTable,
+}
+
+pub enum Outcome {
+    Accepted(Layout),
+    Refused { number: u32, table: u32, row: u32 },
+}
+
+// The rows of a table, one after the other: the row it stands at, and the end.
+pub struct Cursor {
+    pub row: usize,
+    pub end: usize,
+}
+
+impl Cursor {
+    pub fn new(end: usize) -> Self
+        ensures { λ r. ⌜ (r .row ≡ 0) × (r .end ≡ end) ⌝ }
+    {
+        Self { row: 0, end }
+    }
+
+    pub fn next(self) -> Self
+        requires { ⌜ self .row < self .end ⌝ }
+        ensures { λ r. ⌜ (r .row ≡ self .row + 1) × (r .end ≡ self .end) ⌝ }
+    {
+        Self {
+            row: self.row + 1,
+            end: self.end,
+        }
+    }
+}

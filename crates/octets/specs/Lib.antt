@@ -1,0 +1,10 @@
+pub mod Octets
+pub mod Search
+pub mod SearchLaws
+pub mod Gather
+pub mod GatherLaws
+pub mod Numbers
+pub mod NumberLaws
+pub mod Texts
+pub mod TextLaws
+pub mod TableLaws

@@ -1,0 +1,115 @@
+-- The laws of packs. Past its last row a table has one blank, whatever the names; so packs with the same counts and the same rows are equal.
+use Prim.Native.Nat.{ℕ, zero, suc, _/_, _<_, _≤_}
+use mathlib.Core.Path.{_≡_, refl, sym, _∙_, subst, fun-ext}
+use mathlib.Core.List.{List, [], _∷_}
+use mathlib.Core.Bool.{Bool, true, false, cond}
+use native.Mathlib.Omega.{arith}
+use borrow.Author.Tests.{le-ltb, ltb-true, ltb-false}
+use lib.Dec.{ltb, leb}
+use lib.ListN.{length, getD, take, drop}
+use Rattle.octets.specs.Octets.{part}
+use Rattle.listing.specs.Listing.{row, count, table, rows}
+use Rattle.listing.specs.Refusals.{outcome, isAccepted}
+use Rattle.listing.specs.ListingLaws.{table-rows}
+use Rattle.pack.specs.Rows.{Rows, Pack}
+use Rattle.pack.specs.Tables.{noReference, noContents, noSet, noMatrix, noTile, noExtension, referenceRow, contentsRow, setRow, matrixRow, tileRow, extensionRow, referenceOf, contentOf, setOf, matrixOf, tileOf, extensionOf, referencesOf, contentsOf, setsOf, matricesOf, tilesOf, extensionsOf, packOf}
+
+-- ---- past the last row
+-- past its last row a table has x alone
+abbrev pub Past : {A : Type 0} → Rows A → A → Type 0
+Past a x = (i : ℕ) → a .count ≤ i → a .row i ≡ x
+
+part-by : (b : Bool) (xs : List ℕ) → cond b (take 0 xs) [] ≡ []
+part-by true xs = refl
+part-by false xs = refl
+
+part-none : (s : List ℕ) → part s 0 0 ≡ []
+unfolding part
+part-none s = part-by (leb 0 (length s)) (drop 0 s)
+
+module _ (t names : List ℕ) where
+  pub references-past : Past (referencesOf t names) (referenceOf [] noReference)
+  unfolding referenceRow referenceOf
+  references-past i l = simp (le-ltb i (length t / 32) l, part-none names, part-none [])
+
+  pub contents-past : Past (contentsOf t names) (contentOf [] noContents)
+  unfolding contentsRow contentOf
+  contents-past i l = simp (le-ltb i (length t / 40) l, part-none names, part-none [])
+
+  pub sets-past : Past (setsOf t names) (setOf [] noSet)
+  unfolding setRow setOf
+  sets-past i l = simp (le-ltb i (length t / 48) l, part-none names, part-none [])
+
+  pub matrices-past : Past (matricesOf t names) (matrixOf [] noMatrix)
+  unfolding matrixRow matrixOf
+  matrices-past i l = simp (le-ltb i (length t / 64) l, part-none names, part-none [])
+
+  pub tiles-past : Past (tilesOf t names) (tileOf [] noTile)
+  unfolding tileRow tileOf
+  tiles-past i l = simp (le-ltb i (length t / 32) l, part-none names, part-none [])
+
+  pub extensions-past : Past (extensionsOf t names) (extensionOf [] noExtension)
+  unfolding extensionRow extensionOf
+  extensions-past i l = simp (le-ltb i (length t / 32) l)
+
+-- ---- the same rows
+-- two tables have as many rows, and the same ones
+pub record SameRows {A : Type 0} (a b : Rows A) : Type 0 where
+  pub counts : a .count ≡ b .count
+  pub rows : (i : ℕ) → i < a .count → a .row i ≡ b .row i
+
+pub record SamePack (p q : Pack) : Type 0 where
+  pub references : SameRows (p .references) (q .references)
+  pub contents : SameRows (p .contents) (q .contents)
+  pub sets : SameRows (p .sets) (q .sets)
+  pub matrices : SameRows (p .matrices) (q .matrices)
+  pub tiles : SameRows (p .tiles) (q .tiles)
+  pub extensions : SameRows (p .extensions) (q .extensions)
+
+-- such tables are equal where the same stands past the last row
+module _ {A : Type 0} (a b : Rows A) (x : A) (p : Past a x) (q : Past b x) (h : SameRows a b) where
+  by : (i : ℕ) (c : Bool) → ltb i (a .count) ≡ c → a .row i ≡ b .row i
+  by i true f = h .rows i (ltb-true _ _ f)
+  by i false f =
+      let l : a .count ≤ i = ltb-false _ _ f in
+      p i l ∙ sym (q i (subst (λ (n : ℕ). n ≤ i) (h .counts) l))
+
+  pub rows-equal : a ≡ b
+  rows-equal = λ k. record { count = h .counts k; row = fun-ext (λ i. by i (ltb i (a .count)) refl) k }
+
+-- the packs of two listings, whatever the octets that spell them
+pub packs-equal : (s t : List ℕ) → SamePack (packOf s) (packOf t) → packOf s ≡ packOf t
+unfolding packOf
+packs-equal s t h = λ k. record {
+  references = rows-equal _ _ _ (references-past _ _) (references-past _ _) (h .references) k;
+  contents = rows-equal _ _ _ (contents-past _ _) (contents-past _ _) (h .contents) k;
+  sets = rows-equal _ _ _ (sets-past _ _) (sets-past _ _) (h .sets) k;
+  matrices = rows-equal _ _ _ (matrices-past _ _) (matrices-past _ _) (h .matrices) k;
+  tiles = rows-equal _ _ _ (tiles-past _ _) (tiles-past _ _) (h .tiles) k;
+  extensions = rows-equal _ _ _ (extensions-past _ _) (extensions-past _ _) (h .extensions) k;
+}
+
+-- ---- the counts
+-- how many rows a table of a pack has, by its number
+abbrev pub countIn : Pack → ℕ → ℕ
+countIn p k =
+    getD
+    (0 ∷ p .references .count ∷ p .contents .count ∷ p .sets .count ∷ p .matrices .count ∷ p .tiles .count ∷ p .extensions .count ∷ [])
+    k 0
+
+module _ (s : List ℕ) where
+  -- as many as its octets hold
+  pub count-rows : (k : ℕ) → 1 ≤ k → k ≤ 6 → countIn (packOf s) k ≡ rows k (table s k)
+  unfolding packOf rows row
+  count-rows zero l h = omega arith
+  count-rows (suc zero) l h = refl
+  count-rows (suc (suc zero)) l h = refl
+  count-rows (suc (suc (suc zero))) l h = refl
+  count-rows (suc (suc (suc (suc zero)))) l h = refl
+  count-rows (suc (suc (suc (suc (suc zero))))) l h = refl
+  count-rows (suc (suc (suc (suc (suc (suc zero)))))) l h = refl
+  count-rows (suc (suc (suc (suc (suc (suc (suc k))))))) l h = omega arith
+
+  -- of an accepted listing, as many as the header says
+  pub count-header : isAccepted (outcome s) ≡ true → (k : ℕ) → 1 ≤ k → k ≤ 6 → countIn (packOf s) k ≡ count s k
+  count-header a k l h = count-rows k l h ∙ table-rows s a k l (omega arith)

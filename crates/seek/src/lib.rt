@@ -1,0 +1,62 @@
+// Rows that pass a test: one enum of tests and one loop for each table.
+use octets::Name;
+use pack::ContentsRow;
+use pack::ExtensionRow;
+use pack::MatrixRow;
+use pack::TileRow;
+
+mod contents;
+mod extensions;
+mod matrices;
+mod references;
+mod sets;
+mod tiles;
+
+pub use contents::first_content;
+pub use contents::is_of_type;
+pub use extensions::first_extension;
+pub use extensions::is_text;
+pub use matrices::first_matrix;
+pub use references::first_id;
+pub use sets::first_set;
+pub use tiles::first_tile;
+
+// What a rule asks of a contents row.
+pub enum ContentTest {
+    Named(Name),
+    Tiles(Name),
+    Map,
+}
+
+// Of a set row.
+pub enum SetTest {
+    Named(Name),
+    Breaks162(ContentsRow),
+}
+
+// Of a matrix row.
+pub enum MatrixTest {
+    Named(Name),
+    Level { name: Name, zoom: u64 },
+    AtMost(TileRow),
+    AtLeast(TileRow),
+    Breaks351(MatrixRow),
+    Breaks531(MatrixRow),
+}
+
+// Of a tile row.
+pub enum TileTest {
+    Named(Name),
+    Address {
+        name: Name,
+        zoom: u64,
+        column: u64,
+        row: u64,
+    },
+}
+
+// Of an extension row.
+pub enum ExtensionTest {
+    Frees(Name),
+    Equals622(ExtensionRow),
+}

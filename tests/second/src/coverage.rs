@@ -1,0 +1,204 @@
+//! What the made listings reach: every code found and not found, every
+//! refusal given and not given, every kind of listing. And how long judging
+//! takes.
+
+use std::fmt;
+use std::time::Instant;
+
+use crate::calls::{lookup, report, verdict, Question};
+use crate::generate::{generate, kind_names, questions, LIMITS};
+use crate::listing::{read, NONE};
+use crate::rules::{Finding, CODES};
+
+/// One line of the table: how many have what it tells of, and how many lack it.
+struct Line {
+    name: String,
+    have: usize,
+    lack: usize,
+    /// Is it right for none to lack it?
+    may_lack_none: bool,
+}
+
+impl Line {
+    fn new(name: impl Into<String>) -> Line {
+        Line { name: name.into(), have: 0, lack: 0, may_lack_none: false }
+    }
+
+    fn count(&mut self, has: bool) {
+        match has {
+            true => self.have += 1,
+            false => self.lack += 1,
+        }
+    }
+
+    fn is_empty(&self) -> bool {
+        self.have == 0 || (self.lack == 0 && !self.may_lack_none)
+    }
+}
+
+/// The coverage table.
+pub struct Table {
+    listings: usize,
+    codes: Vec<Line>,
+    untestable: Vec<Line>,
+    without_row: Vec<Line>,
+    refusals: Vec<Line>,
+    lookups: Line,
+    kinds: Vec<Line>,
+}
+
+const CODES_WITHOUT_ROW: [u32; 3] = [111, 112, 113];
+/// Refusals 1 to 8 are a listing's; 9 and 10 are a call's.
+const REFUSALS: u32 = 10;
+
+/// Makes the listings of so many seeds and the ones at the limits, and counts.
+pub fn table(first: u64, count: u64) -> Table {
+    let mut table = Table::new();
+    for seed in first..first.saturating_add(count) {
+        let case = generate(seed);
+        table.count_listing(case.kind, &case.listing);
+        let questions = questions(seed, &case.listing);
+        for code in questions.codes {
+            let refused = verdict(&case.listing, code).err();
+            table.refusals[8].count(refused.is_some_and(|r| r.number == 9));
+        }
+        for question in questions.lookups {
+            table.count_lookup(&case.listing, question);
+        }
+    }
+    for (name, make) in &LIMITS {
+        table.count_listing(name, &make());
+    }
+    table
+}
+
+impl Table {
+    fn new() -> Table {
+        let code_line = |code: u32| Line::new(format!("code {code}"));
+        let rarely_empty = CODES.iter().filter(|code| !code.is_testable_without_rows());
+        let limits = LIMITS.iter().map(|(name, _)| *name);
+        Table {
+            listings: 0,
+            codes: CODES.iter().map(|code| code_line(code.number)).collect(),
+            untestable: rarely_empty
+                .map(|code| Line::new(format!("not testable {}", code.number)))
+                .collect(),
+            without_row: CODES_WITHOUT_ROW
+                .iter()
+                .map(|code| Line::new(format!("code {code} without a row")))
+                .collect(),
+            refusals: (1..=REFUSALS).map(|number| Line::new(format!("refusal {number}"))).collect(),
+            lookups: Line::new("lookups with a tile"),
+            kinds: kind_names().chain(limits).map(kind_line).collect(),
+        }
+    }
+
+    fn count_listing(&mut self, kind: &str, octets: &[u8]) {
+        self.listings += 1;
+        let line = self.kinds.iter_mut().find(|line| line.name == kind);
+        if let Some(line) = line {
+            line.have += 1;
+        }
+        let outcome = report(octets);
+        let number = outcome.as_ref().err().map(|refusal| refusal.number);
+        for (refusal, line) in (1..=8).zip(&mut self.refusals) {
+            line.count(number == Some(refusal));
+        }
+        if let Ok(findings) = outcome {
+            self.count_findings(octets, &findings);
+        }
+    }
+
+    fn count_findings(&mut self, octets: &[u8], findings: &[Finding]) {
+        let has = |code: u32| {
+            let at = findings.partition_point(|finding| finding.code < code);
+            findings.get(at).filter(|finding| finding.code == code)
+        };
+        for (code, line) in CODES.iter().zip(&mut self.codes) {
+            line.count(has(code.number).is_some());
+        }
+        for (code, line) in CODES_WITHOUT_ROW.iter().zip(&mut self.without_row) {
+            line.count(has(*code).is_some_and(|finding| finding.row == NONE));
+        }
+        let Ok(listing) = read(octets) else {
+            return;
+        };
+        let rarely_empty = CODES.iter().filter(|code| !code.is_testable_without_rows());
+        for (code, line) in rarely_empty.zip(&mut self.untestable) {
+            line.count(listing.count(code.table) == 0);
+        }
+    }
+
+    fn count_lookup(&mut self, octets: &[u8], question: Question) {
+        let answer = lookup(octets, question);
+        let refused = answer.err().map(|refusal| refusal.number);
+        self.refusals[9].count(refused == Some(10));
+        if let Ok(row) = answer {
+            self.lookups.count(row.is_some());
+        }
+    }
+
+    fn lines(&self) -> impl Iterator<Item = &Line> {
+        let counted = self.codes.iter().chain(&self.without_row);
+        let counted = counted.chain(&self.untestable).chain(&self.refusals);
+        counted.chain([&self.lookups]).chain(&self.kinds)
+    }
+
+    /// The lines on which a count is 0 that must not be.
+    pub fn empty_lines(&self) -> Vec<&str> {
+        let empty = self.lines().filter(|line| line.is_empty());
+        empty.map(|line| line.name.as_str()).collect()
+    }
+}
+
+fn kind_line(name: &str) -> Line {
+    Line { may_lack_none: true, ..Line::new(name) }
+}
+
+impl fmt::Display for Table {
+    fn fmt(&self, out: &mut fmt::Formatter<'_>) -> fmt::Result {
+        writeln!(out, "{:<32} {:>8} {:>8}", "", "have", "lack")?;
+        for line in self.lines() {
+            let (name, have) = (&line.name, line.have);
+            match line.may_lack_none {
+                true => writeln!(out, "{name:<32} {have:>8}")?,
+                false => writeln!(out, "{name:<32} {have:>8} {:>8}", line.lack)?,
+            }
+        }
+        for name in self.empty_lines() {
+            writeln!(out, "EMPTY: {name}")?;
+        }
+        writeln!(out, "{} listings", self.listings)
+    }
+}
+
+/// The least time of some runs, in milliseconds.
+fn least_time(mut run: impl FnMut()) -> f64 {
+    let mut least = f64::INFINITY;
+    for _ in 0..15 {
+        let start = Instant::now();
+        run();
+        least = least.min(start.elapsed().as_secs_f64() * 1e3);
+    }
+    least
+}
+
+/// How long a report, a verdict on 541 and a lookup take on a listing.
+pub fn timing(octets: &[u8]) -> String {
+    let mut total = 0;
+    let report_time = least_time(|| total = report(octets).map_or(0, |found| found.len()));
+    let verdict_time = least_time(|| {
+        std::hint::black_box(verdict(octets, 541).is_ok());
+    });
+    let last = read(octets).ok().and_then(|listing| listing.tiles().last());
+    let (zoom, column, row) = last.map_or((0, 0, 0), |t| (t.zoom, t.column, t.row));
+    let question = Question { contents_row: 0, zoom, column, row };
+    let lookup_time = least_time(|| {
+        std::hint::black_box(lookup(octets, question).is_ok());
+    });
+    format!(
+        "{} octets, {total} findings: report {report_time:.2} ms, \
+         verdict 541 {verdict_time:.2} ms, lookup {lookup_time:.2} ms\n",
+        octets.len()
+    )
+}

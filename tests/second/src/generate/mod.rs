@@ -1,0 +1,109 @@
+//! A maker of listings to judge: good ones, ones with planted faults, ones in
+//! which everything collides, damaged ones, and ones at the limits of size.
+//! All are made from a seed alone.
+
+mod damage;
+mod dense;
+mod edges;
+mod full;
+mod limits;
+mod packs;
+mod plant;
+mod questions;
+mod random;
+mod sizes;
+mod small;
+
+pub use full::{full, FULL_KINDS};
+pub use limits::LIMITS;
+pub use questions::{questions, Questions};
+pub use random::Random;
+
+use crate::make::Draft;
+
+/// A listing and the kind that it is of.
+pub struct Case {
+    pub kind: &'static str,
+    pub listing: Vec<u8>,
+}
+
+/// A kind of listing and its maker.
+pub struct Kind {
+    pub name: &'static str,
+    make: fn(&mut Random) -> Vec<u8>,
+}
+
+const fn kind(name: &'static str, make: fn(&mut Random) -> Vec<u8>) -> Kind {
+    Kind { name, make }
+}
+
+/// The kinds that are not planted faults.
+static KINDS: [Kind; 32] = [
+    kind("good pack", |random| packs::good(random).listing()),
+    kind("small domain", |r| small::any(r).listing()),
+    kind("small domain, tiles", |r| small::tiles(r).listing()),
+    kind("small domain, matrices", |r| small::matrices(r).listing()),
+    kind("small domain, sets", |r| small::sets(r).listing()),
+    kind("small domain, extensions", |r| small::extensions(r).listing()),
+    kind("small domain, references", |r| small::references(r).listing()),
+    kind("dates", |random| small::dates(random).listing()),
+    kind("overlapping names", |r| small::overlapping(r).listing()),
+    kind("dense spans", |random| dense::spans(random).listing()),
+    kind("dense levels", |random| dense::levels(random).listing()),
+    kind("dense extensions", |r| dense::extensions(r).listing()),
+    kind("many faults", plant::many),
+    kind("short", damage::short),
+    kind("truncated", damage::truncated),
+    kind("extended", damage::extended),
+    kind("bit flips", damage::bit_flips),
+    kind("octet flips", damage::octet_flips),
+    kind("random octets", damage::random_octets),
+    kind("version and length", damage::version_and_length),
+    kind("counts", damage::counts),
+    kind("offsets", damage::offsets),
+    kind("counts and offsets", damage::counts_and_offsets),
+    kind("text edges", edges::text_edges),
+    kind("nulls", edges::nulls),
+    kind("nearly NULL", edges::nearly_null),
+    kind("contents flags", edges::contents_flags),
+    kind("several refusals", edges::several_refusals),
+    kind("room for findings", sizes::room_for_findings),
+    kind("longest for the desk", sizes::longest_for_the_desk),
+    kind("mid-size", sizes::mid_size),
+    kind("mid-size, few names", sizes::mid_size_collisions),
+];
+
+/// The names of all kinds, as [`generate`] gives them.
+pub fn kind_names() -> impl Iterator<Item = &'static str> {
+    let plain = KINDS.iter().map(|kind| kind.name);
+    plain.chain(plant::PLANTS.iter().map(|plant| plant.name))
+}
+
+/// The listing of a seed. Seeds that follow one another run through the kinds.
+pub fn generate(seed: u64) -> Case {
+    let mut random = Random::new(seed);
+    let turn = (seed % (KINDS.len() + plant::PLANTS.len()) as u64) as usize;
+    match KINDS.get(turn) {
+        Some(kind) => Case { kind: kind.name, listing: (kind.make)(&mut random) },
+        None => {
+            let plant = &plant::PLANTS[turn - KINDS.len()];
+            Case { kind: plant.name, listing: plant::planted(plant, &mut random) }
+        }
+    }
+}
+
+/// A good pack with one fault at most, and what the maker knows of it: the
+/// code, and whether it must show. For a check of the maker and the judge.
+pub fn one_fault(seed: u64) -> (Vec<u8>, u32, bool) {
+    let mut random = Random::new(seed);
+    let plants = &plant::PLANTS;
+    let plant = &plants[(seed % plants.len() as u64) as usize];
+    let mut draft: Draft = packs::good(&mut random);
+    let shows = (plant.plant)(&mut random, &mut draft);
+    (draft.listing(), plant.code, shows)
+}
+
+/// A good pack.
+pub fn good_pack(seed: u64) -> Vec<u8> {
+    packs::good(&mut Random::new(seed)).listing()
+}

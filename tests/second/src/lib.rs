@@ -1,0 +1,21 @@
+//! Desterlin's second program: an independent judge of listings, written from
+//! document 01 alone, and a maker of listings to judge.
+//!
+//! * [`listing`] reads octets, or says why it turns them away;
+//! * [`rules`] holds the 36 codes and finds what breaks them;
+//! * [`calls`] answers report, verdict and lookup, in the paper's terms and in
+//!   the octets of the three C calls;
+//! * [`desk`] says what the desk program must print;
+//! * [`make`] and [`generate`] make listings;
+//! * [`coverage`] counts what the made listings reach;
+//! * [`samples`] and [`vectors`] hold what was worked out by hand.
+
+pub mod calls;
+pub mod coverage;
+pub mod desk;
+pub mod generate;
+pub mod listing;
+pub mod make;
+pub mod rules;
+pub mod samples;
+pub mod vectors;

@@ -1,0 +1,119 @@
+//! The commands of the second program; README.md tells their use.
+
+use std::io::{self, Read, Write};
+use std::process::ExitCode;
+
+use second::calls::{lookup, verdict, Question, Verdict};
+use second::{coverage, desk, generate, samples, vectors};
+
+const USAGE: &str = "\
+usage: second judge < LISTING
+       second desk < LISTING
+       second verdict CODE < LISTING
+       second lookup CONTENTS ZOOM COLUMN ROW < LISTING
+       second make SEED > LISTING
+       second full KIND TILES > LISTING
+       second time KIND TILES
+       second coverage FIRST COUNT
+       second samples DIR
+       second vectors [SAMPLES-DIR]";
+
+/// What a command came to: text or octets to print and whether all is well.
+struct Outcome {
+    printed: Vec<u8>,
+    is_well: bool,
+}
+
+fn well(printed: impl Into<Vec<u8>>) -> Result<Outcome, String> {
+    Ok(Outcome { printed: printed.into(), is_well: true })
+}
+
+fn main() -> ExitCode {
+    let arguments: Vec<String> = std::env::args().skip(1).collect();
+    let words: Vec<&str> = arguments.iter().map(String::as_str).collect();
+    let outcome = run(&words).and_then(|outcome| {
+        let mut out = io::stdout().lock();
+        let printed = out.write_all(&outcome.printed).and_then(|()| out.flush());
+        printed.map_err(told).map(|()| outcome.is_well)
+    });
+    match outcome {
+        Ok(true) => ExitCode::SUCCESS,
+        Ok(false) => ExitCode::FAILURE,
+        Err(message) => {
+            eprintln!("{message}");
+            ExitCode::from(2)
+        }
+    }
+}
+
+fn run(words: &[&str]) -> Result<Outcome, String> {
+    match words {
+        ["judge"] => well(desk::printed_in_full(&input()?)),
+        ["desk"] => well(desk::printed(&input()?)),
+        ["verdict", code] => well(verdict_line(&input()?, number(code)?)),
+        ["lookup", contents, zoom, column, row] => {
+            let question = Question {
+                contents_row: number(contents)?,
+                zoom: number(zoom)?,
+                column: number(column)?,
+                row: number(row)?,
+            };
+            well(lookup_line(&input()?, question))
+        }
+        ["make", seed] => well(generate::generate(number(seed)?).listing),
+        ["full", kind, tiles] => well(full(kind, number(tiles)?)?),
+        ["time", kind, tiles] => well(coverage::timing(&full(kind, number(tiles)?)?)),
+        ["coverage", first, count] => {
+            let table = coverage::table(number(first)?, number(count)?);
+            Ok(Outcome {
+                printed: table.to_string().into_bytes(),
+                is_well: table.empty_lines().is_empty(),
+            })
+        }
+        ["samples", folder] => well(samples::write(folder.as_ref()).map_err(told)?),
+        ["vectors"] => checked(vectors::run(vectors::samples_folder())),
+        ["vectors", folder] => checked(vectors::run(folder.into())),
+        _ => Err(USAGE.to_string()),
+    }
+}
+
+fn told(error: io::Error) -> String {
+    error.to_string()
+}
+
+fn number<N: std::str::FromStr>(word: &str) -> Result<N, String> {
+    let mistake = || format!("not a number in range: {word}\n{USAGE}");
+    word.parse().map_err(|_| mistake())
+}
+
+fn input() -> Result<Vec<u8>, String> {
+    let mut octets = Vec::new();
+    let read = io::stdin().lock().read_to_end(&mut octets);
+    read.map_err(told).map(|_| octets)
+}
+
+fn full(kind: &str, tiles: usize) -> Result<Vec<u8>, String> {
+    let listing = generate::full(kind, tiles);
+    listing.ok_or_else(|| format!("kinds: {}", generate::FULL_KINDS.join(" ")))
+}
+
+fn verdict_line(listing: &[u8], code: u32) -> String {
+    match verdict(listing, code) {
+        Ok(Verdict::Pass) => "pass\n".to_string(),
+        Ok(Verdict::Fail(row)) => format!("fail {}\n", desk::row_or_dash(row)),
+        Ok(Verdict::NotTestable) => "not testable\n".to_string(),
+        Err(refusal) => format!("{}\n", desk::refused(refusal)),
+    }
+}
+
+fn lookup_line(listing: &[u8], question: Question) -> String {
+    match lookup(listing, question) {
+        Ok(Some(row)) => format!("tile {row}\n"),
+        Ok(None) => "tile -\n".to_string(),
+        Err(refusal) => format!("{}\n", desk::refused(refusal)),
+    }
+}
+
+fn checked(tally: vectors::Tally) -> Result<Outcome, String> {
+    Ok(Outcome { printed: tally.to_string().into_bytes(), is_well: tally.is_well() })
+}
