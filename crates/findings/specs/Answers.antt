@@ -1,7 +1,7 @@
 -- What report, verdict and lookup answer of a listing.
 use Prim.Native.Nat.{ℕ}
 use mathlib.Core.List.{List, [], _∷_}
-use mathlib.Core.Bool.{Bool, cond, _&&_, _||_}
+use mathlib.Core.Bool.{Bool, true, false, cond, _&&_, _||_}
 use lib.Dec.{eqb, ltb}
 use lib.IntN.{ℤ}
 use lib.ListN.{length}
@@ -10,12 +10,12 @@ use Rattle.spelling.specs.Words.{tiles}
 use Rattle.listing.specs.Refusals.{outcome}
 use Rattle.listing.specs.declared.Outcome.{Outcome}
 use Rattle.listing.specs.declared.Outcome.the-variants as reading
-use Rattle.pack.specs.Rows.{Rows, Content, Tile, Pack}
+use Rattle.pack.specs.Rows.{Rows, Content, Tile, Pack, rowsIn}
 use Rattle.pack.specs.Tables.{packOf}
 use Rattle.rules.specs.Judgments.{none, firstRow}
 use Rattle.rules.specs.Contents.{ofType}
 use Rattle.rules.specs.Tiles.{atAddress}
-use Rattle.findings.specs.Findings.{Finding, rowsIn, ofCode, findings, tableOf}
+use Rattle.findings.specs.Findings.{Finding, ofCode, findings, tableOf}
 use Rattle.findings.specs.declared.Ruling.{Ruling}
 use Rattle.findings.specs.declared.Ruling.the-variants as ruling
 use Rattle.findings.specs.declared.Located.{Located}
@@ -52,6 +52,13 @@ ruledBy (reading.Refused n t r) v = ruling.Refused n t r
 unfoldable pub verdictOf : List ℕ → ℕ → Ruling
 verdictOf s c = cond (eqb (tableOf c) 0) (ruling.Refused 9 0 0) (ruledBy (outcome s) (ruled (packOf s) c))
 
+-- whether it is one of pass, fail and not testable, or a refusal
+abbrev pub isRefused : Ruling → Bool
+isRefused ruling.Pass = false
+isRefused (ruling.Fail i) = false
+isRefused ruling.NotTestable = false
+isRefused (ruling.Refused n t r) = true
+
 -- ---- the lookup: "the lowest tile row with that name and address, or none"
 unfoldable pub locatedRow : ℕ → ℕ → Located
 locatedRow k n = cond (ltb k n) (look.At k) look.Nowhere
@@ -63,12 +70,12 @@ tileAt ts x z c r = locatedRow (firstRow (atAddress x z c r) ts) (ts .count)
 unfoldable pub canLook : Rows Content → ℕ → Bool
 canLook cs k = ltb k (cs .count) && ofType tiles (cs .row k)
 
-unfoldable pub lookedUp : Pack → ℕ → ℤ → ℤ → ℤ → Located
-lookedUp p k z c r = cond (canLook (p .contents) k) (tileAt (p .tiles) (p .contents .row k .name) z c r) (look.Refused 10 0 0)
+unfoldable pub lookedUp : Rows Content → Rows Tile → ℕ → ℤ → ℤ → ℤ → Located
+lookedUp cs ts k z c r = cond (canLook cs k) (tileAt ts (cs .row k .name) z c r) (look.Refused 10 0 0)
 
 abbrev pub locatedBy : Outcome → Located → Located
 locatedBy (reading.Accepted l) a = a
 locatedBy (reading.Refused n t r) a = look.Refused n t r
 
 unfoldable pub lookupOf : List ℕ → ℕ → ℤ → ℤ → ℤ → Located
-lookupOf s k z c r = locatedBy (outcome s) (lookedUp (packOf s) k z c r)
+lookupOf s k z c r = locatedBy (outcome s) (lookedUp (packOf s .contents) (packOf s .tiles) k z c r)

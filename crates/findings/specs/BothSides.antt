@@ -18,7 +18,7 @@ use Rattle.spelling.specs.Quoted.{quoted}
 use Rattle.spelling.specs.ExtensionNames.{alphanumeric, nameOctet, underscoreAt, strangeAt, inside, isExtensionName}
 use Rattle.listing.specs.Listing.{row, most, version, total, count, offset, start, table, rows}
 use Rattle.listing.specs.Refusals.{over, moved, textBase, textCount, nullCount, badText, badRow, lowestBadRow, badTable, badContents, headerReasons, rowReasons, outcome, numberOf, tableOf, rowOf}
-use Rattle.pack.specs.Rows.{Rows, Content, MatrixSet, Matrix, Tile, Extension}
+use Rattle.pack.specs.Rows.{Rows, Content, MatrixSet, Matrix, Tile, Extension, rowsIn}
 use Rattle.pack.specs.Tables.{packOf}
 use Rattle.rules.specs.Judgments.{none, partner}
 use Rattle.rules.specs.References.{hasId, lacksId}
@@ -28,7 +28,7 @@ use Rattle.rules.specs.Tiles.{offGrid, off561, placed, of561}
 use Rattle.rules.specs.Extensions.{of621}
 use Rattle.rules.specs.Codes.{codeAt, tableAt, judged, judgedNone}
 use Rattle.rules.specs.declared.Judgment.{Judgment}
-use Rattle.findings.specs.Findings.{Finding, found, atRow, atNone, rowsIn, ofCode, ofPlace, findings}
+use Rattle.findings.specs.Findings.{Finding, found, atRow, atNone, ofCode, ofPlace, findings}
 use Rattle.findings.specs.Answers.{reported}
 use Rattle.findings.specs.Words.{wordsOf}
 

@@ -1,5 +1,5 @@
 -- The list of findings: what it has of a code, and its order.
-use Prim.Native.Nat.{ℕ, zero, suc, _+_, _<_, _≤_}
+use Prim.Native.Nat.{ℕ, zero, suc, _+_, _*_, _<_, _≤_}
 use mathlib.Core.Path.{_≡_, refl, sym, ap, _∙_, subst}
 use mathlib.Core.Bool.{Bool, true, false, cond, not}
 use mathlib.Core.List.{List, [], _∷_, _++_, append-nil}
@@ -7,18 +7,19 @@ use mathlib.Core.Logic.{_⊎_, inl, inr, ⊎-elim}
 use native.Mathlib.Nat.{eq-or-lt-of-le, le-of-suc-le-suc, not-suc-le-zero}
 use native.Mathlib.Omega.{arith}
 use lib.Dec.{eqb, ltb, eqb→eq}
-use lib.ListN.{getD, length, drop}
+use lib.ListN.{getD, length, drop, length-append}
 use borrow.Author.Tests.{eq-eqb, ne-eqb, ltb-true, eqb-true, eqb-false, not-false}
 use Rattle.octets.specs.Gather.{gather}
+use Rattle.octets.specs.GatherLaws.{gather-length}
 use Rattle.octets.specs.Search.{first, any}
 use Rattle.octets.specs.SearchLaws.{first-lowest}
 use Rattle.octets.specs.TableLaws.{at}
-use Rattle.pack.specs.Rows.{Pack}
+use Rattle.pack.specs.Rows.{Pack, rowsIn}
 use Rattle.rules.specs.Judgments.{none}
 use Rattle.rules.specs.Codes.{codes, tables, codeAt, tableAt, judged, judgedNone}
 use Rattle.rules.specs.declared.Judgment.{Judgment}
 use Rattle.rules.specs.declared.Judgment.the-variants.{Clean, Hit}
-use Rattle.findings.specs.Findings.{Finding, found, atRow, atNone, rowsIn, ofCode, ofPlace, findings, seek, tableOf, only, Every, Before, Ordered}
+use Rattle.findings.specs.Findings.{Finding, found, atRow, atNone, ofCode, ofPlace, findings, seek, tableOf, only, Every, Before, Ordered}
 
 -- ---- what holds of every finding
 module _ (P : Finding → Type 0) where
@@ -122,3 +123,22 @@ only-place p k h =
     apart zero (suc b) n = inl (omega arith)
     apart (suc a) zero n = inr (omega arith)
     apart (suc a) (suc b) n = ⊎-elim (λ (l : a < b). inl (omega arith)) (λ (l : b < a). inr (omega arith)) (apart a b (λ q. n (ap suc q)))
+
+-- ---- how many there are: at most one a row
+found-length : (c i : ℕ) (v : Judgment) → length (found c i v) ≤ 1
+found-length c i Clean = omega arith
+found-length c i (Hit j) = omega arith
+
+pub rows-length : (p : Pack) (c n : ℕ) → length (gather n (atRow p c)) ≤ n
+unfolding atRow
+rows-length p c n = omega (arith, gather-length n 1 (λ i. found c i (judged p c i)) (λ i. found-length c i (judged p c i)))
+
+-- at most one a row and one more for a code
+pub code-length : (p : Pack) (c t : ℕ) → length (ofCode p c t) ≤ rowsIn p t + 1
+unfolding ofCode atNone
+code-length p c t = simp length-append (omega (arith, rows-length p c (rowsIn p t), found-length c none (judgedNone p c)))
+
+pub places-length : (p : Pack) (m k : ℕ) → ((t : ℕ) → rowsIn p t ≤ m) → length (gather k (ofPlace p)) ≤ k * (m + 1)
+unfolding ofPlace
+places-length p m k h =
+    gather-length k (m + 1) (λ j. ofCode p (codeAt j) (tableAt j)) (λ j. omega (arith, code-length p (codeAt j) (tableAt j), h (tableAt j)))

@@ -7,7 +7,7 @@ use mathlib.Core.Bool.{Bool, cond}
 use lib.Dec.{eqb}
 use lib.ListN.{length, getD, drop}
 use Rattle.octets.specs.Gather.{gather}
-use Rattle.pack.specs.Rows.{Rows, Pack}
+use Rattle.pack.specs.Rows.{Pack, rowsIn}
 use Rattle.rules.specs.Judgments.{none}
 use Rattle.rules.specs.Codes.{codes, tables, codeAt, tableAt, judged, judgedNone}
 use Rattle.rules.specs.declared.Judgment.{Judgment}
@@ -31,13 +31,6 @@ atRow p c i = found c i (judged p c i)
 -- the finding that a code has without a row, if any
 unfoldable pub atNone : Pack → ℕ → List Finding
 atNone p c = found c none (judgedNone p c)
-
--- how many rows a table has, by its number
-unfoldable pub rowsIn : Pack → ℕ → ℕ
-rowsIn p t =
-    getD
-    (0 ∷ p .references .count ∷ p .contents .count ∷ p .sets .count ∷ p .matrices .count ∷ p .tiles .count ∷ p .extensions .count ∷ [])
-    t 0
 
 -- the findings of a code: its table's rows in order, then the one without a row
 unfoldable pub ofCode : Pack → ℕ → ℕ → List Finding

@@ -18,14 +18,14 @@ use Rattle.octets.specs.SearchLaws.{first-lowest, any-some}
 use Rattle.octets.specs.Texts.{same}
 use Rattle.octets.specs.TextLaws.{same-equal}
 use Rattle.listing.specs.Refusals.{outcome}
-use Rattle.pack.specs.Rows.{Rows, Tile, Pack}
+use Rattle.pack.specs.Rows.{Rows, Tile, Pack, rowsIn}
 use Rattle.pack.specs.Tables.{packOf}
 use Rattle.rules.specs.Judgments.{partner, firstRow}
 use Rattle.rules.specs.Tiles.{atAddress, of541}
 use Rattle.rules.specs.Codes.{codeAt, tableAt, judged, judgedNone}
 use Rattle.rules.specs.declared.Judgment.{Judgment}
 use Rattle.rules.specs.declared.Judgment.the-variants.{Clean, Hit}
-use Rattle.findings.specs.Findings.{Finding, found, atRow, atNone, rowsIn, ofCode, ofPlace, findings, Every}
+use Rattle.findings.specs.Findings.{Finding, found, atRow, atNone, ofCode, ofPlace, findings, Every}
 use Rattle.findings.specs.FindingLaws.{every-left, every-part}
 use Rattle.findings.specs.Answers.{locatedRow, tileAt}
 use Rattle.findings.specs.declared.Located.{Located}

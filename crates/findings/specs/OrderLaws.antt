@@ -6,12 +6,12 @@ use mathlib.Core.Logic.{inl, inr, ⊎-elim}
 use native.Mathlib.Nat.{not-suc-le-zero}
 use native.Mathlib.Omega.{arith}
 use Rattle.octets.specs.Gather.{gather}
-use Rattle.pack.specs.Rows.{Pack}
+use Rattle.pack.specs.Rows.{Pack, rowsIn}
 use Rattle.rules.specs.Judgments.{none}
 use Rattle.rules.specs.Codes.{codeAt, tableAt, judged, judgedNone}
 use Rattle.rules.specs.declared.Judgment.{Judgment}
 use Rattle.rules.specs.declared.Judgment.the-variants.{Clean, Hit}
-use Rattle.findings.specs.Findings.{Finding, found, atRow, atNone, rowsIn, ofCode, ofPlace, findings, Every, Before, Ordered}
+use Rattle.findings.specs.Findings.{Finding, found, atRow, atNone, ofCode, ofPlace, findings, Every, Before, Ordered}
 use Rattle.findings.specs.FindingLaws.{every-append, every-gather, every-map, ascending}
 
 -- a list after another, each of whose findings is before all of it

@@ -8,10 +8,10 @@ use borrow.Author.Tests.{le-ltb, ltb-true, ltb-false}
 use lib.Dec.{ltb, leb}
 use lib.ListN.{length, getD, take, drop}
 use Rattle.octets.specs.Octets.{part}
-use Rattle.listing.specs.Listing.{row, count, table, rows}
+use Rattle.listing.specs.Listing.{row, most, count, table, rows}
 use Rattle.listing.specs.Refusals.{outcome, isAccepted}
-use Rattle.listing.specs.ListingLaws.{table-rows}
-use Rattle.pack.specs.Rows.{Rows, Pack}
+use Rattle.listing.specs.ListingLaws.{count-most, table-rows}
+use Rattle.pack.specs.Rows.{Rows, Pack, rowsIn}
 use Rattle.pack.specs.Tables.{noReference, noContents, noSet, noMatrix, noTile, noExtension, referenceRow, contentsRow, setRow, matrixRow, tileRow, extensionRow, referenceOf, contentOf, setOf, matrixOf, tileOf, extensionOf, referencesOf, contentsOf, setsOf, matricesOf, tilesOf, extensionsOf, packOf}
 
 -- ---- past the last row
@@ -90,17 +90,10 @@ packs-equal s t h = λ k. record {
 }
 
 -- ---- the counts
--- how many rows a table of a pack has, by its number
-abbrev pub countIn : Pack → ℕ → ℕ
-countIn p k =
-    getD
-    (0 ∷ p .references .count ∷ p .contents .count ∷ p .sets .count ∷ p .matrices .count ∷ p .tiles .count ∷ p .extensions .count ∷ [])
-    k 0
-
 module _ (s : List ℕ) where
   -- as many as its octets hold
-  pub count-rows : (k : ℕ) → 1 ≤ k → k ≤ 6 → countIn (packOf s) k ≡ rows k (table s k)
-  unfolding packOf rows row
+  pub count-rows : (k : ℕ) → 1 ≤ k → k ≤ 6 → rowsIn (packOf s) k ≡ rows k (table s k)
+  unfolding packOf rows row rowsIn
   count-rows zero l h = omega arith
   count-rows (suc zero) l h = refl
   count-rows (suc (suc zero)) l h = refl
@@ -111,5 +104,21 @@ module _ (s : List ℕ) where
   count-rows (suc (suc (suc (suc (suc (suc (suc k))))))) l h = omega arith
 
   -- of an accepted listing, as many as the header says
-  pub count-header : isAccepted (outcome s) ≡ true → (k : ℕ) → 1 ≤ k → k ≤ 6 → countIn (packOf s) k ≡ count s k
+  pub count-header : isAccepted (outcome s) ≡ true → (k : ℕ) → 1 ≤ k → k ≤ 6 → rowsIn (packOf s) k ≡ count s k
   count-header a k l h = count-rows k l h ∙ table-rows s a k l (omega arith)
+
+  -- and at most its most
+  pub count-at-most : isAccepted (outcome s) ≡ true → (k : ℕ) → 1 ≤ k → k ≤ 6 → rowsIn (packOf s) k ≤ most k
+  count-at-most a k l h = subst (λ (n : ℕ). n ≤ most k) (sym (count-header a k l h)) (count-most s a k l (omega arith))
+
+  -- so no row has the number that means none, 4294967295
+  pub rows-numbered : isAccepted (outcome s) ≡ true → (k : ℕ) → rowsIn (packOf s) k ≤ 4294967295
+  unfolding rowsIn most
+  rows-numbered a zero = omega arith
+  rows-numbered a (suc zero) = omega (arith, count-at-most a 1 (omega arith) (omega arith))
+  rows-numbered a (suc (suc zero)) = omega (arith, count-at-most a 2 (omega arith) (omega arith))
+  rows-numbered a (suc (suc (suc zero))) = omega (arith, count-at-most a 3 (omega arith) (omega arith))
+  rows-numbered a (suc (suc (suc (suc zero)))) = omega (arith, count-at-most a 4 (omega arith) (omega arith))
+  rows-numbered a (suc (suc (suc (suc (suc zero))))) = omega (arith, count-at-most a 5 (omega arith) (omega arith))
+  rows-numbered a (suc (suc (suc (suc (suc (suc zero)))))) = omega (arith, count-at-most a 6 (omega arith) (omega arith))
+  rows-numbered a (suc (suc (suc (suc (suc (suc (suc k))))))) = omega arith

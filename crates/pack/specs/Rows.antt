@@ -1,6 +1,7 @@
 -- A pack: what the tables of a listing say. Every rule is on this alone: no octet of a listing, no offset and no buffer stands in it.
 use Prim.Native.Nat.{ℕ}
-use mathlib.Core.List.{List}
+use mathlib.Core.List.{List, [], _∷_}
+use lib.ListN.{getD}
 use lib.IntN.{ℤ}
 use lib.Ieee.{Float}
 use Rattle.octets.specs.Texts.{Nullable}
@@ -63,3 +64,10 @@ pub record Pack : Type 0 where
   pub matrices : Rows Matrix
   pub tiles : Rows Tile
   pub extensions : Rows Extension
+
+-- how many rows a table has, by its number
+unfoldable pub rowsIn : Pack → ℕ → ℕ
+rowsIn p k =
+    getD
+    (0 ∷ p .references .count ∷ p .contents .count ∷ p .sets .count ∷ p .matrices .count ∷ p .tiles .count ∷ p .extensions .count ∷ [])
+    k 0

@@ -41,7 +41,7 @@ fn is_map(names: &[u8], c: ContentsRow) -> bool
     is_of_type(names, b"features", c)
 }
 
-fn content_passes(names: &[u8], test: ContentTest, c: ContentsRow) -> bool
+pub fn content_passes(names: &[u8], test: ContentTest, c: ContentsRow) -> bool
     ensures { λ r. ⌜ r ≡ contentPasses (now (names .entry)) test (contentOf (now (names .entry)) c) ⌝ }
 {
     match test {

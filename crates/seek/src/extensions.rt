@@ -52,7 +52,7 @@ fn equals_622(names: &[u8], e: ExtensionRow, q: ExtensionRow) -> bool
     false
 }
 
-fn extension_passes(names: &[u8], test: ExtensionTest, q: ExtensionRow) -> bool
+pub fn extension_passes(names: &[u8], test: ExtensionTest, q: ExtensionRow) -> bool
     ensures { λ r. ⌜ r ≡ extensionPasses (now (names .entry)) test (extensionOf (now (names .entry)) q) ⌝ }
 {
     match test {

@@ -12,14 +12,19 @@ mod references;
 mod sets;
 mod tiles;
 
+pub use contents::content_passes;
 pub use contents::first_content;
 pub use contents::is_of_type;
+pub use extensions::extension_passes;
 pub use extensions::first_extension;
 pub use extensions::is_text;
 pub use matrices::first_matrix;
+pub use matrices::matrix_passes;
 pub use references::first_id;
 pub use sets::first_set;
+pub use sets::set_passes;
 pub use tiles::first_tile;
+pub use tiles::tile_passes;
 
 // What a rule asks of a contents row.
 pub enum ContentTest {

@@ -101,7 +101,7 @@ fn breaks_531(names: &[u8], m: MatrixRow, q: MatrixRow) -> bool
     false
 }
 
-fn matrix_passes(names: &[u8], test: MatrixTest, q: MatrixRow) -> bool
+pub fn matrix_passes(names: &[u8], test: MatrixTest, q: MatrixRow) -> bool
     ensures { λ r. ⌜ r ≡ matrixPasses (now (names .entry)) test (matrixOf (now (names .entry)) q) ⌝ }
 {
     match test {

@@ -37,7 +37,7 @@ fn breaks_162(names: &[u8], c: ContentsRow, q: SetRow) -> bool
     octets::same_name(names, c.name, q.name)
 }
 
-fn set_passes(names: &[u8], test: SetTest, q: SetRow) -> bool
+pub fn set_passes(names: &[u8], test: SetTest, q: SetRow) -> bool
     ensures { λ r. ⌜ r ≡ setPasses (now (names .entry)) test (setOf (now (names .entry)) q) ⌝ }
 {
     match test {

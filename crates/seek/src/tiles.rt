@@ -31,7 +31,7 @@ fn at_address(names: &[u8], x: Name, zoom: u64, column: u64, row: u64, q: TileRo
     false
 }
 
-fn tile_passes(names: &[u8], test: TileTest, q: TileRow) -> bool
+pub fn tile_passes(names: &[u8], test: TileTest, q: TileRow) -> bool
     ensures { λ r. ⌜ r ≡ tilePasses (now (names .entry)) test (tileOf (now (names .entry)) q) ⌝ }
 {
     match test {

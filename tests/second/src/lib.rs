@@ -5,12 +5,14 @@
 //! * [`rules`] holds the 36 codes and finds what breaks them;
 //! * [`calls`] answers report, verdict and lookup, in the paper's terms and in
 //!   the octets of the three C calls;
+//! * [`cases`] chooses calls, and says what must come of each in every octet;
 //! * [`desk`] says what the desk program must print;
 //! * [`make`] and [`generate`] make listings;
 //! * [`coverage`] counts what the made listings reach;
 //! * [`samples`] and [`vectors`] hold what was worked out by hand.
 
 pub mod calls;
+pub mod cases;
 pub mod coverage;
 pub mod desk;
 pub mod generate;

@@ -4,7 +4,7 @@ use std::io::{self, Read, Write};
 use std::process::ExitCode;
 
 use second::calls::{lookup, verdict, Question, Verdict};
-use second::{coverage, desk, generate, samples, vectors};
+use second::{cases, coverage, desk, generate, samples, vectors};
 
 const USAGE: &str = "\
 usage: second judge < LISTING
@@ -12,7 +12,10 @@ usage: second judge < LISTING
        second verdict CODE < LISTING
        second lookup CONTENTS ZOOM COLUMN ROW < LISTING
        second make SEED > LISTING
+       second limit NUMBER > LISTING
        second full KIND TILES > LISTING
+       second cases FIRST COUNT > CASES
+       second cases-limits TILES > CASES
        second time KIND TILES
        second coverage FIRST COUNT
        second samples DIR
@@ -61,6 +64,7 @@ fn run(words: &[&str]) -> Result<Outcome, String> {
             well(lookup_line(&input()?, question))
         }
         ["make", seed] => well(generate::generate(number(seed)?).listing),
+        ["limit", limit] => well(limit_listing(number(limit)?)?),
         ["full", kind, tiles] => well(full(kind, number(tiles)?)?),
         ["time", kind, tiles] => well(coverage::timing(&full(kind, number(tiles)?)?)),
         ["coverage", first, count] => {
@@ -69,6 +73,14 @@ fn run(words: &[&str]) -> Result<Outcome, String> {
                 printed: table.to_string().into_bytes(),
                 is_well: table.empty_lines().is_empty(),
             })
+        }
+        ["cases", first, count] => {
+            let (first, count) = (number(first)?, number(count)?);
+            streamed(|out| cases::write_seeds(out, first, count))
+        }
+        ["cases-limits", tiles] => {
+            let tiles = number(tiles)?;
+            streamed(|out| cases::write_limits(out, tiles))
         }
         ["samples", folder] => well(samples::write(folder.as_ref()).map_err(told)?),
         ["vectors"] => checked(vectors::run(vectors::samples_folder())),
@@ -95,6 +107,22 @@ fn input() -> Result<Vec<u8>, String> {
 fn full(kind: &str, tiles: usize) -> Result<Vec<u8>, String> {
     let listing = generate::full(kind, tiles);
     listing.ok_or_else(|| format!("kinds: {}", generate::FULL_KINDS.join(" ")))
+}
+
+fn limit_listing(limit: usize) -> Result<Vec<u8>, String> {
+    let found = generate::LIMITS.get(limit);
+    let (_, make) = found.ok_or_else(|| format!("limits: 0 to {}", generate::LIMITS.len() - 1))?;
+    Ok(make())
+}
+
+/// Prints while it goes: the cases of some thousand listings are too many
+/// octets to gather first.
+fn streamed(
+    write: impl FnOnce(io::BufWriter<io::StdoutLock>) -> io::Result<()>,
+) -> Result<Outcome, String> {
+    let out = io::BufWriter::with_capacity(1 << 16, io::stdout().lock());
+    write(out).map_err(told)?;
+    well("")
 }
 
 fn verdict_line(listing: &[u8], code: u32) -> String {

@@ -1,5 +1,5 @@
 -- `seek::contents/gives_tiles` meets its contract.
-use Rattle.seek.proofs.Laws.{tests}
+use Rattle.seek.specs.TestLaws.{tests}
 use Rattle.pack.specs.Tables.{contentOf}
 use Rattle.rules.specs.Contents.{givesTiles}
 use borrow.Author.Needs.{needs}

@@ -1,5 +1,5 @@
 -- `seek::contents/is_map` meets its contract.
-use Rattle.seek.proofs.Laws.{tests}
+use Rattle.seek.specs.TestLaws.{tests}
 use Rattle.rules.specs.Contents.{isMap}
 use borrow.Author.Needs.{needs}
 use Rattle.seek.proofs.contents.is_map.Statement.{statement}

@@ -1,5 +1,5 @@
 -- `seek::extensions/does_free` meets its contract.
-use Rattle.seek.proofs.Laws.{tests}
+use Rattle.seek.specs.TestLaws.{tests}
 use Rattle.pack.specs.Tables.{extensionOf}
 use Rattle.rules.specs.Matrices.{frees}
 use borrow.Author.Needs.{needs}

@@ -1,5 +1,5 @@
 -- `seek::matrices/at_least` meets its contract.
-use Rattle.seek.proofs.Laws.{tests}
+use Rattle.seek.specs.TestLaws.{tests}
 use Rattle.pack.specs.Tables.{matrixOf, tileOf}
 use Rattle.rules.specs.Tiles.{atLeast}
 use borrow.Author.Needs.{needs}

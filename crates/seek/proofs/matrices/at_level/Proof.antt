@@ -1,5 +1,5 @@
 -- `seek::matrices/at_level` meets its contract.
-use Rattle.seek.proofs.Laws.{tests}
+use Rattle.seek.specs.TestLaws.{tests}
 use Rattle.pack.specs.Tables.{matrixOf}
 use Rattle.rules.specs.Matrices.{atLevel}
 use borrow.Author.Needs.{needs}

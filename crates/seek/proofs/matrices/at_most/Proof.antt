@@ -1,5 +1,5 @@
 -- `seek::matrices/at_most` meets its contract.
-use Rattle.seek.proofs.Laws.{tests}
+use Rattle.seek.specs.TestLaws.{tests}
 use Rattle.pack.specs.Tables.{matrixOf, tileOf}
 use Rattle.rules.specs.Tiles.{atMost}
 use borrow.Author.Needs.{needs}

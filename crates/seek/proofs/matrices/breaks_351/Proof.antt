@@ -1,5 +1,5 @@
 -- `seek::matrices/breaks_351` meets its contract.
-use Rattle.seek.proofs.Laws.{tests}
+use Rattle.seek.specs.TestLaws.{tests}
 use Rattle.pack.specs.Tables.{matrixOf}
 use Rattle.rules.specs.Matrices.{breaks351}
 use borrow.Author.Needs.{needs}
@@ -14,5 +14,5 @@ breaks-351-spec =
     (λ c κs. search needs)
     (λ c. search tests)
     (λ c κs. search needs)
-    (λ c. search tests)
+    (λ c. search tests fits 20000)
     (λ c. search tests))

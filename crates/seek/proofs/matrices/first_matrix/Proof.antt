@@ -1,7 +1,7 @@
 -- `seek::matrices/first_matrix` meets its contract.
 use Prim.Native.Nat.{_-_}
 use mathlib.Core.Path.{_≡_}
-use Rattle.octets.specs.SearchLaws.{Seeking, seeks, cursors}
+use Rattle.octets.specs.SearchLaws.{Seeking, cursor-start, cursor-more, seek-hit, seek-end}
 use Rattle.pack.specs.Tables.{matricesOf}
 use Rattle.seek.specs.Tests.{matrixPasses}
 use borrow.Author.Needs.{needs}
@@ -20,11 +20,11 @@ first-matrix-spec =
     (tie.spec Inv-loop
     μ-loop
     (λ c κs. search needs)
-    (λ c. search cursors)
+    (λ c. search cursor-start)
     (λ c κs. search needs)
     (λ c κs. search needs)
-    (λ c. search (rw (c .before .before .matrix-at .ensures) at (c .before .matrix-passes .ensures), seeks))
+    (λ c. search (rw (c .before .before .matrix-at .ensures) at (c .before .matrix-passes .ensures), seek-hit))
     (λ c κs. search needs)
     (λ c. search needs)
-    (λ c. search (rw (c .before .before .before .matrix-at .ensures) at (c .before .before .matrix-passes .ensures), cursors))
-    (λ c. search seeks))
+    (λ c. search (rw (c .before .before .before .matrix-at .ensures) at (c .before .before .matrix-passes .ensures), cursor-more))
+    (λ c. search seek-end))

@@ -1,7 +1,7 @@
 -- `seek::references/first_id` meets its contract.
 use Prim.Native.Nat.{_-_}
 use mathlib.Core.Path.{_≡_}
-use Rattle.octets.specs.SearchLaws.{Seeking, seeks, cursors}
+use Rattle.octets.specs.SearchLaws.{Seeking, cursor-start, cursor-more, seek-hit, seek-end}
 use Rattle.pack.specs.Tables.{referencesOf}
 use Rattle.octets.specs.Numbers.{signed}
 use Rattle.rules.specs.References.{hasId}
@@ -21,11 +21,11 @@ first-id-spec =
     (tie.spec Inv-loop
     μ-loop
     (λ c κs. search needs)
-    (λ c. search cursors)
+    (λ c. search cursor-start)
     (λ c κs. search needs)
     (λ c κs. search needs)
-    (λ c. search (rw (c .before .before .reference-at .ensures) at (c .before .has-id .ensures), seeks))
+    (λ c. search (rw (c .before .before .reference-at .ensures) at (c .before .has-id .ensures), seek-hit))
     (λ c κs. search needs)
     (λ c. search needs)
-    (λ c. search (rw (c .before .before .before .reference-at .ensures) at (c .before .before .has-id .ensures), cursors))
-    (λ c. search seeks))
+    (λ c. search (rw (c .before .before .before .reference-at .ensures) at (c .before .before .has-id .ensures), cursor-more))
+    (λ c. search seek-end))

@@ -1,5 +1,5 @@
 -- `seek::sets/breaks_162` meets its contract.
-use Rattle.seek.proofs.Laws.{tests}
+use Rattle.seek.specs.TestLaws.{tests}
 use Rattle.pack.specs.Tables.{contentOf, setOf}
 use Rattle.rules.specs.Contents.{setNamed, breaks162}
 use borrow.Author.Needs.{needs}

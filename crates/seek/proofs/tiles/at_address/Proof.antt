@@ -1,5 +1,5 @@
 -- `seek::tiles/at_address` meets its contract.
-use Rattle.seek.proofs.Laws.{tests}
+use Rattle.seek.specs.TestLaws.{tests}
 use Rattle.pack.specs.Tables.{tileOf}
 use Rattle.rules.specs.Tiles.{atAddress}
 use borrow.Author.Needs.{needs}

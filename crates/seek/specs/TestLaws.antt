@@ -1,20 +1,20 @@
--- What a row of tests shows, in the order in which the code makes them: r is the outcome of one that stands for a, c what is answered in the end.
+-- The laws of tests that the code makes one after the other: r is the outcome of one that stands for a, c what is answered in the end.
+-- What shows r comes first in each, so that `search` takes r from the code's own branches.
 use mathlib.Core.Path.{_≡_, refl, sym, ap, _∙_}
 use mathlib.Core.Bool.{Bool, true, false, not, _&&_, _||_}
-use borrow.Author.Needs.{needs}
 
-module _ (a r : Bool) (e : r ≡ a) where
-  pub was-yes : r ≡ true → true ≡ a
-  was-yes f = sym f ∙ e
+module _ (a r : Bool) where
+  pub was-yes : r ≡ true → r ≡ a → true ≡ a
+  was-yes f e = sym f ∙ e
 
-  pub was-no : r ≡ false → false ≡ a
-  was-no f = sym f ∙ e
+  pub was-no : r ≡ false → r ≡ a → false ≡ a
+  was-no f e = sym f ∙ e
 
-  pub not-yes : r ≡ true → false ≡ not a
-  not-yes f = ap not (was-yes f)
+  pub not-yes : r ≡ true → r ≡ a → false ≡ not a
+  not-yes f e = ap not (was-yes f e)
 
-  pub not-no : r ≡ false → true ≡ not a
-  not-no f = ap not (was-no f)
+  pub not-no : r ≡ false → r ≡ a → true ≡ not a
+  not-no f e = ap not (was-no f e)
 
 module _ (a b : Bool) where
   pub early-no : false ≡ a → false ≡ (a && b)
@@ -44,4 +44,4 @@ module _ (a b : Bool) where
   pub or-no : (c : Bool) → false ≡ a → c ≡ b → c ≡ (a || b)
   or-no c e f = f ∙ ap (λ (x : Bool). x || b) e
 
-pub ruleset tests = (was-yes, was-no, not-yes, not-no, early-no, early-yes, late-no, late-yes, or-yes, or-no, needs)
+pub ruleset tests = (was-yes, was-no, not-yes, not-no, early-no, early-yes, late-no, late-yes, or-yes, or-no)

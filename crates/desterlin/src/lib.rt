@@ -1,0 +1,63 @@
+// The three calls for C. Numbers and octet buffers only; words are little-endian. docs/API.md is for their callers.
+ghost use Rattle.octets.specs.Numbers.{signed};
+ghost use Rattle.desterlin.specs.Calls.{ReportCall, VerdictCall, LookupCall};
+
+// Everything that is wrong with a listing. The answer: number, table and row of a refusal, total, written.
+#[no_mangle]
+pub extern "C" fn desterlin_report(
+    listing: &[u8],
+    findings: &mut [u8],
+    work: &mut [u8],
+    answer: &mut [u8],
+) -> u32
+    ensures { λ r. ⌜ ReportCall (now (listing .entry)) (now (findings .entry)) (now (work .entry)) (now (answer .entry)) r (now (findings .exit)) (now (work .exit)) (now (answer .exit)) ⌝ }
+{
+    if answer.len() < 20 {
+        return 0;
+    }
+    let a = report::report(listing, findings, work);
+    let total = a.total;
+    let written = a.written;
+    report::put_refusal(answer, 0, a.number, a.table, a.row);
+    report::put_word(answer, 12, total);
+    report::put_word(answer, 16, written);
+    1
+}
+
+// The verdict of one code. The answer: 0 pass, 1 fail, 2 not testable, 3 refused; the row; number, table and row of a refusal.
+#[no_mangle]
+pub extern "C" fn desterlin_verdict(
+    listing: &[u8],
+    code: u32,
+    work: &mut [u8],
+    answer: &mut [u8],
+) -> u32
+    ensures { λ r. ⌜ VerdictCall (now (listing .entry)) code (now (work .entry)) (now (answer .entry)) r (now (work .exit)) (now (answer .exit)) ⌝ }
+{
+    if answer.len() < 20 {
+        return 0;
+    }
+    let v = report::verdict(listing, code, work);
+    report::put_ruling(answer, v);
+    1
+}
+
+// The tile at an address. The answer: its row; number, table and row of a refusal. The address is three i64, by their patterns.
+#[no_mangle]
+pub extern "C" fn desterlin_lookup(
+    listing: &[u8],
+    contents_row: u32,
+    zoom: u64,
+    column: u64,
+    row: u64,
+    answer: &mut [u8],
+) -> u32
+    ensures { λ r. ⌜ LookupCall (now (listing .entry)) «contents_row» (signed zoom) (signed column) (signed row) (now (answer .entry)) r (now (answer .exit)) ⌝ }
+{
+    if answer.len() < 16 {
+        return 0;
+    }
+    let a = report::lookup(listing, contents_row as usize, zoom, column, row);
+    report::put_located(answer, a);
+    1
+}

@@ -1,0 +1,19 @@
+-- `judge::tiles/placed_561` meets its contract.
+use borrow.Author.Tests.{lt-ltb, le-ltb}
+use Rattle.pack.specs.Tables.{tileOf, matrixOf}
+use Rattle.rules.specs.Tiles.{off561, placed}
+use borrow.Author.Needs.{needs}
+use Rattle.judge.proofs.tiles.placed_561.Statement.{statement}
+use Rattle.judge.proofs.tiles.placed_561.Tie as tie
+
+pub placed-561-spec : {M : Type 1} → statement M
+unfolding placed off561 tileOf matrixOf
+placed-561-spec =
+    tie.close
+    (tie.spec (λ c. search needs)
+    (λ c. search needs)
+    (λ c κs. search needs)
+    (λ c κs. search needs)
+    (λ c κs. search needs)
+    (λ c. simp (lt-ltb _ _ (c .before .before .before .if1 .taken)) (cc))
+    (λ c. simp (le-ltb _ _ (c .if1 .left))))

@@ -1,0 +1,87 @@
+// The rules on contents: 131, 151, 161, 162, 171, 401; and tiles names: 341, 391, 431.
+ghost use mathlib.Core.Path.{_≡_};
+ghost use mathlib.Core.Bool.{not};
+ghost use Rattle.octets.specs.Texts.{spell};
+ghost use Rattle.pack.specs.Tables.{contentOf, contentsOf, referencesOf, setsOf};
+ghost use Rattle.rules.specs.Judgments.{faultIf};
+ghost use Rattle.rules.specs.Contents.{isTilesName, of131, of151, of161, of162, none171, of401};
+use crate::judgments::fault_if;
+use crate::judgments::partner_of;
+use crate::judgments::unless_found;
+use crate::references::lacks_id;
+use crate::sets::first_named;
+use listing::ContentsTable;
+use listing::SetTable;
+use octets::Name;
+use pack::ContentsRow;
+use rules::Judgment;
+use seek::ContentTest;
+use seek::SetTest;
+
+pub fn of_131(contents: &[u8], names: &[u8], c: ContentsRow, i: usize) -> Judgment
+    ensures { λ r. ⌜ r ≡ of131 (contentsOf (now (contents .entry)) (now (names .entry))) (contentOf (now (names .entry)) c) i ⌝ }
+{
+    let name = c.name;
+    partner_of(
+        seek::first_content(contents, names, ContentTest::Named(name), i),
+        i,
+    )
+}
+
+pub fn of_151(names: &[u8], c: ContentsRow) -> Judgment
+    ensures { λ r. ⌜ r ≡ of151 (contentOf (now (names .entry)) c) ⌝ }
+{
+    fault_if(!spelling::dates::is_date(octets::spelled(names, c.last_change)))
+}
+
+pub fn of_161(references: &[u8], names: &[u8], c: ContentsRow) -> Judgment
+    ensures { λ r. ⌜ r ≡ of161 (referencesOf (now (references .entry)) (now (names .entry))) (contentOf (now (names .entry)) c) ⌝ }
+{
+    if c.flag == 1 {
+        return lacks_id(references, names, c.srs_id);
+    }
+    Judgment::Clean
+}
+
+pub fn of_162(sets: &[u8], names: &[u8], c: ContentsRow) -> Judgment
+    ensures { λ r. ⌜ r ≡ of162 (setsOf (now (sets .entry)) (now (names .entry))) (contentOf (now (names .entry)) c) ⌝ }
+{
+    if seek::is_of_type(names, b"tiles", c) {
+        let n = sets.len() / (SetTable::ROW as usize);
+        return partner_of(seek::first_set(sets, names, SetTest::Breaks162(c), n), n);
+    }
+    Judgment::Clean
+}
+
+pub fn none_171(contents: &[u8], names: &[u8]) -> Judgment
+    ensures { λ r. ⌜ r ≡ none171 (contentsOf (now (contents .entry)) (now (names .entry))) ⌝ }
+{
+    let n = contents.len() / (ContentsTable::ROW as usize);
+    unless_found(seek::first_content(contents, names, ContentTest::Map, n), n)
+}
+
+pub fn of_401(sets: &[u8], names: &[u8], c: ContentsRow) -> Judgment
+    ensures { λ r. ⌜ r ≡ of401 (setsOf (now (sets .entry)) (now (names .entry))) (contentOf (now (names .entry)) c) ⌝ }
+{
+    if seek::is_of_type(names, b"tiles", c) {
+        let n = sets.len() / (SetTable::ROW as usize);
+        return unless_found(first_named(sets, names, c.name, n), n);
+    }
+    Judgment::Clean
+}
+
+// ---- tiles names
+
+pub fn is_tiles_name(contents: &[u8], names: &[u8], x: Name) -> bool
+    ensures { λ r. ⌜ r ≡ isTilesName (contentsOf (now (contents .entry)) (now (names .entry))) (spell (now (names .entry)) x) ⌝ }
+{
+    let n = contents.len() / (ContentsTable::ROW as usize);
+    seek::first_content(contents, names, ContentTest::Tiles(x), n) < n
+}
+
+// 341, 391 and 431, by the name of the row.
+pub fn of_stray(contents: &[u8], names: &[u8], x: Name) -> Judgment
+    ensures { λ r. ⌜ r ≡ faultIf (not (isTilesName (contentsOf (now (contents .entry)) (now (names .entry))) (spell (now (names .entry)) x))) ⌝ }
+{
+    fault_if(!is_tiles_name(contents, names, x))
+}

@@ -1,0 +1,104 @@
+// The rules on rows as the code reads them, and the rule of a code.
+ghost use mathlib.Core.Path.{_≡_};
+ghost use Rattle.pack.specs.Tables.{packFrom};
+ghost use Rattle.rules.specs.Codes.{judged, judgedNone};
+use pack::contents_at;
+use pack::extension_at;
+use pack::matrix_at;
+use pack::reference_at;
+use pack::set_at;
+use pack::tile_at;
+use rules::Judgment;
+
+mod contents;
+mod extensions;
+mod judgments;
+mod matrices;
+mod references;
+mod sets;
+mod tiles;
+
+use contents::of_stray;
+use matrices::of_below;
+use matrices::of_size;
+use references::lacks_id;
+use references::of_undefined;
+
+// The pattern of -1.
+const MINUS_ONE: u64 = 18446744073709551615;
+
+// What the rule of a code says of row i of the code's table.
+pub fn judge(
+    references: &[u8],
+    contents: &[u8],
+    sets: &[u8],
+    matrices: &[u8],
+    tiles: &[u8],
+    extensions: &[u8],
+    names: &[u8],
+    code: u32,
+    i: usize,
+) -> Judgment
+    ensures { λ r. ⌜ r ≡ judged (packFrom (now (references .entry)) (now (contents .entry)) (now (sets .entry)) (now (matrices .entry)) (now (tiles .entry)) (now (extensions .entry)) (now (names .entry))) code i ⌝ }
+{
+    match code {
+        101 => references::of_101(references, names, reference_at(references, i), i),
+        111 => references::of_111(names, reference_at(references, i)),
+        112 => of_undefined(names, MINUS_ONE, reference_at(references, i)),
+        113 => of_undefined(names, 0, reference_at(references, i)),
+        131 => contents::of_131(contents, names, contents_at(contents, i), i),
+        151 => contents::of_151(names, contents_at(contents, i)),
+        161 => contents::of_161(references, names, contents_at(contents, i)),
+        162 => contents::of_162(sets, names, contents_at(contents, i)),
+        341 => of_stray(contents, names, tile_at(tiles, i).name),
+        351 => matrices::of_351(matrices, tiles, extensions, names, matrix_at(matrices, i)),
+        391 => of_stray(contents, names, set_at(sets, i).name),
+        392 => sets::of_392(sets, names, set_at(sets, i), i),
+        401 => contents::of_401(sets, names, contents_at(contents, i)),
+        411 => lacks_id(references, names, set_at(sets, i).srs_id),
+        431 => of_stray(contents, names, matrix_at(matrices, i).name),
+        432 => matrices::of_432(matrices, names, matrix_at(matrices, i), i),
+        441 => tiles::of_441(matrices, names, tile_at(tiles, i)),
+        451 => matrices::of_451(sets, names, matrix_at(matrices, i)),
+        452 => matrices::of_452(sets, names, matrix_at(matrices, i)),
+        461 => of_below(0, matrix_at(matrices, i).zoom),
+        471 => of_below(1, matrix_at(matrices, i).width),
+        481 => of_below(1, matrix_at(matrices, i).height),
+        491 => of_below(1, matrix_at(matrices, i).tile_width),
+        501 => of_below(1, matrix_at(matrices, i).tile_height),
+        511 => of_size(matrix_at(matrices, i).pixel_x),
+        521 => of_size(matrix_at(matrices, i).pixel_y),
+        531 => matrices::of_531(matrices, names, matrix_at(matrices, i)),
+        541 => tiles::of_541(tiles, names, tile_at(tiles, i), i),
+        551 => tiles::of_551(matrices, names, tile_at(tiles, i)),
+        561 => tiles::of_561(matrices, names, tile_at(tiles, i)),
+        571 => tiles::of_571(matrices, names, tile_at(tiles, i)),
+        601 => extensions::of_601(names, extension_at(extensions, i)),
+        621 => extensions::of_621(names, extension_at(extensions, i)),
+        622 => extensions::of_622(extensions, names, extension_at(extensions, i), i),
+        641 => extensions::of_641(names, extension_at(extensions, i)),
+        _ => Judgment::Clean,
+    }
+}
+
+// What the rule of a code says without a row.
+pub fn judge_none(
+    references: &[u8],
+    contents: &[u8],
+    sets: &[u8],
+    matrices: &[u8],
+    tiles: &[u8],
+    extensions: &[u8],
+    names: &[u8],
+    code: u32,
+) -> Judgment
+    ensures { λ r. ⌜ r ≡ judgedNone (packFrom (now (references .entry)) (now (contents .entry)) (now (sets .entry)) (now (matrices .entry)) (now (tiles .entry)) (now (extensions .entry)) (now (names .entry))) code ⌝ }
+{
+    match code {
+        111 => lacks_id(references, names, 4326),
+        112 => lacks_id(references, names, MINUS_ONE),
+        113 => lacks_id(references, names, 0),
+        171 => contents::none_171(contents, names),
+        _ => Judgment::Clean,
+    }
+}

@@ -1,0 +1,75 @@
+// The rules on reference systems: 101, 111, 112, 113.
+ghost use mathlib.Core.Path.{_≡_};
+ghost use Rattle.octets.specs.Numbers.{signed};
+ghost use Rattle.spelling.specs.LetterCase.{inAnyCase};
+ghost use Rattle.pack.specs.Tables.{referenceOf, referencesOf};
+ghost use Rattle.rules.specs.Judgments.{faultIf};
+ghost use Rattle.rules.specs.References.{of101, wrong111, of111, wrongUndefined, lacksId};
+use crate::judgments::fault_if;
+use crate::judgments::partner_of;
+use crate::judgments::unless_found;
+use listing::ReferenceTable;
+use pack::ReferenceRow;
+use rules::Judgment;
+
+pub fn of_101(references: &[u8], names: &[u8], r: ReferenceRow, i: usize) -> Judgment
+    ensures { λ v. ⌜ v ≡ of101 (referencesOf (now (references .entry)) (now (names .entry))) (referenceOf (now (names .entry)) r) i ⌝ }
+{
+    partner_of(seek::first_id(references, names, r.srs_id, i), i)
+}
+
+// ---- 111, 112, 113
+
+// The organization is the word, given in capitals, in any letter case.
+fn is_organization(names: &[u8], r: ReferenceRow, word: &[u8]) -> bool
+    ensures { λ b. ⌜ b ≡ inAnyCase (referenceOf (now (names .entry)) r .organization) (now (word .entry)) ⌝ }
+{
+    spelling::case::is_in_any_case(octets::spelled(names, r.organization), word)
+}
+
+fn is_wrong_111(names: &[u8], r: ReferenceRow) -> bool
+    ensures { λ b. ⌜ b ≡ wrong111 (referenceOf (now (names .entry)) r) ⌝ }
+{
+    if octets::is_equal(4326, r.srs_id) {
+        if octets::is_equal(4326, r.coordsys_id) {
+            return !is_organization(names, r, b"EPSG");
+        }
+        return true;
+    }
+    false
+}
+
+pub fn of_111(names: &[u8], r: ReferenceRow) -> Judgment
+    ensures { λ v. ⌜ v ≡ of111 (referenceOf (now (names .entry)) r) ⌝ }
+{
+    fault_if(is_wrong_111(names, r))
+}
+
+fn is_wrong_undefined(names: &[u8], id: u64, r: ReferenceRow) -> bool
+    ensures { λ b. ⌜ b ≡ wrongUndefined (signed id) (referenceOf (now (names .entry)) r) ⌝ }
+{
+    if octets::is_equal(id, r.srs_id) {
+        if octets::is_equal(id, r.coordsys_id) {
+            if octets::is_name(names, r.definition, b"undefined") {
+                return !is_organization(names, r, b"NONE");
+            }
+        }
+        return true;
+    }
+    false
+}
+
+// 112 and 113, by the id of the undefined system.
+pub fn of_undefined(names: &[u8], id: u64, r: ReferenceRow) -> Judgment
+    ensures { λ v. ⌜ v ≡ faultIf (wrongUndefined (signed id) (referenceOf (now (names .entry)) r)) ⌝ }
+{
+    fault_if(is_wrong_undefined(names, id, r))
+}
+
+// No reference row has the id: 161, 411, and the findings of 111, 112 and 113 without a row.
+pub fn lacks_id(references: &[u8], names: &[u8], id: u64) -> Judgment
+    ensures { λ v. ⌜ v ≡ lacksId (signed id) (referencesOf (now (references .entry)) (now (names .entry))) ⌝ }
+{
+    let n = references.len() / (ReferenceTable::ROW as usize);
+    unless_found(seek::first_id(references, names, id, n), n)
+}

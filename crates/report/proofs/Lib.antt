@@ -1,0 +1,5 @@
+pub mod Adding
+pub mod Codes
+pub mod Looking
+pub mod Walking
+pub mod Writing

@@ -1,0 +1,44 @@
+-- The cases of a lookup, as the code meets them.
+use Prim.Native.Nat.{ℕ, _<_, _≤_}
+use mathlib.Core.Path.{_≡_, refl, sym, ap, _∙_}
+use mathlib.Core.Bool.{Bool, true, false, cond, _&&_}
+use mathlib.Core.List.{List}
+use borrow.Author.Tests.{lt-ltb, le-ltb}
+use lib.Dec.{ltb}
+use lib.IntN.{ℤ}
+use Rattle.listing.specs.Listing.{table}
+use Rattle.listing.specs.Refusals.{outcome}
+use Rattle.listing.specs.declared.Layout.{Layout}
+use Rattle.listing.specs.declared.Outcome.{Outcome}
+use Rattle.listing.specs.declared.Outcome.the-variants as reading
+use Rattle.pack.specs.Rows.{Rows, Content, Tile}
+use Rattle.pack.specs.Tables.{contentsOf, tilesOf, packOf}
+use Rattle.findings.specs.Answers.{lookedUp, lookupOf, ruled, verdictOf}
+use Rattle.findings.specs.declared.Located.{Located}
+use Rattle.findings.specs.declared.Located.the-variants as look
+
+-- a row below the count, and one past it
+pub row-yes : (k n : ℕ) (b r : Bool) → k < n → r ≡ b → r ≡ (ltb k n && b)
+row-yes k n b r l e = simp (lt-ltb k n l) e
+
+pub row-no : (k n : ℕ) (b : Bool) → n ≤ k → false ≡ (ltb k n && b)
+row-no k n b l = simp (le-ltb k n l)
+
+-- a test of the code is the definition's
+module _ {A : Type 0} (b r : Bool) (v x y : A) (e : r ≡ b) where
+  pub when-yes : r ≡ true → v ≡ x → v ≡ cond b x y
+  when-yes f q = q ∙ ap (λ (b : Bool). cond b x y) (sym f ∙ e)
+
+  pub when-no : r ≡ false → v ≡ y → v ≡ cond b x y
+  when-no f q = q ∙ ap (λ (b : Bool). cond b x y) (sym f ∙ e)
+
+-- a listing's lookup: turned away, or by its tables
+module _ (s : List ℕ) (k : ℕ) (z c r : ℤ) (o : Outcome) (e : o ≡ outcome s) where
+  pub lookup-refused : (n t i : ℕ) → o ≡ reading.Refused n t i → look.Refused n t i ≡ lookupOf s k z c r
+  unfolding lookupOf
+  lookup-refused n t i f = simp (← e, f)
+
+  pub lookup-done : (l : Layout) (cs ts ns : List ℕ) (v : Located) → o ≡ reading.Accepted l → cs ≡ table s 2 → ts ≡ table s 5 → ns ≡ table s 7
+      → v ≡ lookedUp (contentsOf cs ns) (tilesOf ts ns) k z c r → v ≡ lookupOf s k z c r
+  unfolding lookupOf packOf
+  lookup-done l cs ts ns v f a b d q = simp (← e, f, ← a, ← b, ← d) q

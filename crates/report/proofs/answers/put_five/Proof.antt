@@ -1,0 +1,13 @@
+-- `report::answers::put_five` meets its contract.
+use borrow.Author.Needs.{needs}
+use Rattle.report.proofs.answers.put_five.Statement.{statement}
+use Rattle.report.proofs.answers.put_five.Tie as tie
+
+pub put-five-spec : {M : Type 1} → statement M
+put-five-spec =
+    tie.close
+    (tie.spec (λ c κs. search needs)
+    (λ c κs. search needs)
+    (λ c κs. search needs)
+    (λ c. search needs)
+    (λ c. rw (c .before .before .put-refusal .ensures, c .before .before .before .before .before .before .put-word2 .ensures, c .before .before .before .before .before .before .before .before .before .before .put-word .ensures)))

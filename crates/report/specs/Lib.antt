@@ -1,0 +1,4 @@
+pub mod Buffers
+pub mod BufferLaws
+pub mod Promises
+pub mod PromiseLaws

@@ -1,0 +1,234 @@
+/*
+ * Desterlin for a C program: report, verdict and lookup on one listing.
+ *
+ * A listing is the rows of a GeoPackage 1.2.1 as one string of octets; docs/LISTING.md has its layout, docs/RULES.md
+ * what each code means. Link with target/staticlib/libdesterlin.a, which `rt staticlib desterlin` proves and writes.
+ *
+ * What holds for all three calls:
+ *
+ * - A buffer is a pointer and its number of octets. It needs no alignment. The buffers of one call do not overlap.
+ *   An empty buffer (0 octets) may have any pointer, NULL too. That each pointer is good for its number of octets is
+ *   the caller's part: nothing can prove it.
+ * - The listing may hold any octets at all, damaged ones too. It is read and never written.
+ * - Nothing is kept after a call: no pointer, no octet, no memory. Calls need no opening and no closing.
+ * - No call allocates, reads a file, prints or takes more than 64 KiB of stack.
+ * - Calls may run at the same time in several threads; they may share a listing, not a buffer that is written.
+ * - Each call returns 1, or 0 where the answer buffer is shorter than the call's answer. With 0 nothing is written to
+ *   any buffer, whatever else is wrong. A longer answer buffer is good: octets past the answer keep their values.
+ * - An answer is little-endian words of 32 bits; desterlin_word reads them on any machine.
+ *
+ * C99, and C++ from C++11 on.
+ */
+#ifndef DESTERLIN_H
+#define DESTERLIN_H
+
+#include <stddef.h>
+#include <stdint.h>
+
+#ifdef __cplusplus
+extern "C" {
+#endif
+
+/* "None", where a word would be a row number: no row, no partner, no tile. */
+#define DESTERLIN_NONE UINT32_C(4294967295)
+
+/* The longest listing that is not refused, in octets. */
+#define DESTERLIN_LISTING_MOST 9762880
+
+/* The octets of each answer, and of one finding. */
+#define DESTERLIN_REPORT_ANSWER 20
+#define DESTERLIN_VERDICT_ANSWER 20
+#define DESTERLIN_LOOKUP_ANSWER 16
+#define DESTERLIN_FINDING 12
+
+/*
+ * Work is scratch memory that the caller lends to report and verdict. Its size changes the time of a call and never
+ * its answer: any size is good, 0 too, and this one serves every listing at full speed. What it holds before a call
+ * does not matter. After an accepted call its octets are unspecified; a call that is refused, or that returns 0,
+ * leaves them as they were.
+ */
+#define DESTERLIN_WORK_FULL 2097152
+
+/* The tables of a listing, as in the place of a refusal. */
+enum desterlin_table {
+    DESTERLIN_REFERENCE_SYSTEMS = 1,
+    DESTERLIN_CONTENTS = 2,
+    DESTERLIN_MATRIX_SETS = 3,
+    DESTERLIN_MATRICES = 4,
+    DESTERLIN_TILES = 5,
+    DESTERLIN_EXTENSIONS = 6,
+    DESTERLIN_NAME_OCTETS = 7
+};
+
+/*
+ * Why a listing is turned away. The reasons are checked in this order, but for UNKNOWN_CODE, which comes first. The
+ * place is a table number and a row; it is 0 0 where nothing else is said. Report gives 1 to 8, verdict 9 too, lookup
+ * 10 too.
+ */
+enum desterlin_reason {
+    DESTERLIN_ACCEPTED = 0,            /* no refusal; the place is 0 0 */
+    DESTERLIN_REFUSED_SHORT = 1,       /* fewer than 64 octets */
+    DESTERLIN_REFUSED_LONG = 2,        /* more than DESTERLIN_LISTING_MOST octets */
+    DESTERLIN_REFUSED_VERSION = 3,     /* the version is not 1 */
+    DESTERLIN_REFUSED_LENGTH = 4,      /* the total length field is not the octets lent */
+    DESTERLIN_REFUSED_COUNT = 5,       /* a count above its most; place: the first such table, 0 */
+    DESTERLIN_REFUSED_OFFSET = 6,      /* an offset, or the final end, not as laid down; place: the first such table
+                                          (7 for the final end), 0 */
+    DESTERLIN_REFUSED_TEXT = 7,        /* a text outside table 7, or NULL where not allowed; place: its table and row */
+    DESTERLIN_REFUSED_FLAG = 8,        /* contents flag, spare or absent srs_id not as laid down; place: 2, its row */
+    DESTERLIN_REFUSED_UNKNOWN_CODE = 9, /* verdict: the code is none of the 36 */
+    DESTERLIN_REFUSED_NO_TILES = 10    /* lookup: no such contents row, or its data_type is not "tiles" */
+};
+
+/*
+ * Report: everything that is wrong with a listing.
+ *
+ * answer (DESTERLIN_REPORT_ANSWER octets), five words:
+ *   0 number   0 accepted, or 1 to 8 (enum desterlin_reason)
+ *   1 table    \ place of the refusal; 0 0 where accepted
+ *   2 row      /
+ *   3 total    how many findings the listing has; 0 where refused
+ *   4 written  how many of them stand in findings: the smaller of total and size / DESTERLIN_FINDING
+ *
+ * findings: DESTERLIN_FINDING octets each, three words: code, row, partner; row and partner may be DESTERLIN_NONE.
+ * They are in order by code, then by row, none last, and each stands once. The buffer may be short, or empty:
+ * the first ones are written, and octets past those written keep their values. So a first call with no findings
+ * buffer tells the total, and a second one with total * DESTERLIN_FINDING octets has room for all of them.
+ * A refused report writes nothing to findings.
+ */
+uint32_t desterlin_report(const uint8_t *listing, size_t listing_size,
+                          uint8_t *findings, size_t findings_size,
+                          uint8_t *work, size_t work_size,
+                          uint8_t *answer, size_t answer_size);
+
+enum desterlin_report_word {
+    DESTERLIN_REPORT_NUMBER = 0,
+    DESTERLIN_REPORT_TABLE = 1,
+    DESTERLIN_REPORT_ROW = 2,
+    DESTERLIN_REPORT_TOTAL = 3,
+    DESTERLIN_REPORT_WRITTEN = 4
+};
+
+/*
+ * Verdict: does the listing keep the rule of one code?
+ *
+ * answer (DESTERLIN_VERDICT_ANSWER octets), five words:
+ *   0 verdict  enum desterlin_ruling
+ *   1 row      of a fail: the lowest row with a finding, or none where the finding has no row; otherwise none
+ *   2 number   0 accepted, or 1 to 9 (enum desterlin_reason)
+ *   3 table    \ place of the refusal; 0 0 where accepted
+ *   4 row      /
+ */
+uint32_t desterlin_verdict(const uint8_t *listing, size_t listing_size,
+                           uint32_t code,
+                           uint8_t *work, size_t work_size,
+                           uint8_t *answer, size_t answer_size);
+
+enum desterlin_verdict_word {
+    DESTERLIN_VERDICT_RULING = 0,
+    DESTERLIN_VERDICT_FOUND = 1,
+    DESTERLIN_VERDICT_NUMBER = 2,
+    DESTERLIN_VERDICT_TABLE = 3,
+    DESTERLIN_VERDICT_ROW = 4
+};
+
+enum desterlin_ruling {
+    DESTERLIN_PASS = 0,
+    DESTERLIN_FAIL = 1,
+    DESTERLIN_NOT_TESTABLE = 2, /* the code's table has no rows; never for 111, 112, 113 and 171 */
+    DESTERLIN_REFUSED = 3
+};
+
+/*
+ * Lookup: which tile row has this address, under the table_name of this contents row?
+ *
+ * answer (DESTERLIN_LOOKUP_ANSWER octets), four words:
+ *   0 tile     the lowest tile row with that name, zoom, column and row, or none
+ *   1 number   0 accepted, or 1 to 8 or 10 (enum desterlin_reason)
+ *   2 table    \ place of the refusal; 0 0 where accepted
+ *   3 row      /
+ */
+uint32_t desterlin_lookup(const uint8_t *listing, size_t listing_size,
+                          uint32_t contents_row, int64_t zoom, int64_t column, int64_t row,
+                          uint8_t *answer, size_t answer_size);
+
+enum desterlin_lookup_word {
+    DESTERLIN_LOOKUP_TILE = 0,
+    DESTERLIN_LOOKUP_NUMBER = 1,
+    DESTERLIN_LOOKUP_TABLE = 2,
+    DESTERLIN_LOOKUP_ROW = 3
+};
+
+/*
+ * The 36 codes, ascending, with the table whose rows they judge and the rule in short: DESTERLIN_CODES(X) writes
+ * X(code, table, words) for each. examples/viewer.c makes a table of words from it.
+ */
+#define DESTERLIN_CODES(X) \
+    X(101, DESTERLIN_REFERENCE_SYSTEMS, "two reference systems with one srs_id") \
+    X(111, DESTERLIN_REFERENCE_SYSTEMS, "srs_id 4326 is missing, or is not EPSG 4326") \
+    X(112, DESTERLIN_REFERENCE_SYSTEMS, "srs_id -1 is missing, or is not the undefined Cartesian system") \
+    X(113, DESTERLIN_REFERENCE_SYSTEMS, "srs_id 0 is missing, or is not the undefined geographic system") \
+    X(131, DESTERLIN_CONTENTS, "two contents rows with one table_name") \
+    X(151, DESTERLIN_CONTENTS, "last_change is not YYYY-MM-DDThh:mm:ss.sssZ") \
+    X(161, DESTERLIN_CONTENTS, "contents srs_id is no reference system's") \
+    X(162, DESTERLIN_CONTENTS, "contents and matrix set differ in srs_id") \
+    X(171, DESTERLIN_CONTENTS, "no contents row is of tiles or features") \
+    X(341, DESTERLIN_TILES, "tile of a table that is not in contents as tiles") \
+    X(351, DESTERLIN_MATRICES, "pixel size is not half that of one zoom level lower") \
+    X(391, DESTERLIN_MATRIX_SETS, "matrix set of a table that is not in contents as tiles") \
+    X(392, DESTERLIN_MATRIX_SETS, "two matrix sets with one table_name") \
+    X(401, DESTERLIN_CONTENTS, "tiles table without a matrix set") \
+    X(411, DESTERLIN_MATRIX_SETS, "matrix set srs_id is no reference system's") \
+    X(431, DESTERLIN_MATRICES, "matrix of a table that is not in contents as tiles") \
+    X(432, DESTERLIN_MATRICES, "two matrices with one table_name and zoom_level") \
+    X(441, DESTERLIN_TILES, "tile at a zoom level that has no matrix") \
+    X(451, DESTERLIN_MATRICES, "matrix is not as wide as its matrix set") \
+    X(452, DESTERLIN_MATRICES, "matrix is not as high as its matrix set") \
+    X(461, DESTERLIN_MATRICES, "zoom_level below 0") \
+    X(471, DESTERLIN_MATRICES, "matrix_width below 1") \
+    X(481, DESTERLIN_MATRICES, "matrix_height below 1") \
+    X(491, DESTERLIN_MATRICES, "tile_width below 1") \
+    X(501, DESTERLIN_MATRICES, "tile_height below 1") \
+    X(511, DESTERLIN_MATRICES, "pixel_x_size is not finite and above 0") \
+    X(521, DESTERLIN_MATRICES, "pixel_y_size is not finite and above 0") \
+    X(531, DESTERLIN_MATRICES, "pixel size is not below that of a lower zoom level") \
+    X(541, DESTERLIN_TILES, "two tiles at one address") \
+    X(551, DESTERLIN_TILES, "tile outside the zoom levels of its table") \
+    X(561, DESTERLIN_TILES, "tile_column outside the matrix") \
+    X(571, DESTERLIN_TILES, "tile_row outside the matrix") \
+    X(601, DESTERLIN_EXTENSIONS, "extension with a column_name and no table_name") \
+    X(621, DESTERLIN_EXTENSIONS, "extension_name is not of the form author_name") \
+    X(622, DESTERLIN_EXTENSIONS, "two extension rows alike") \
+    X(641, DESTERLIN_EXTENSIONS, "scope is neither read-write nor write-only")
+
+#define DESTERLIN_CODE_COUNT 36
+
+/* The word with this index, counted from 0, of an answer or of any buffer that has it. */
+static inline uint32_t desterlin_word(const uint8_t *octets, size_t index)
+{
+    const uint8_t *word = octets + 4 * index;
+    return (uint32_t)word[0] | (uint32_t)word[1] << 8 | (uint32_t)word[2] << 16 | (uint32_t)word[3] << 24;
+}
+
+struct desterlin_finding {
+    uint32_t code;
+    uint32_t row;     /* or DESTERLIN_NONE */
+    uint32_t partner; /* or DESTERLIN_NONE */
+};
+
+/* The finding with this index, counted from 0, of a findings buffer; the index is below the answer's word "written". */
+static inline struct desterlin_finding desterlin_finding_at(const uint8_t *findings, size_t index)
+{
+    const uint8_t *octets = findings + DESTERLIN_FINDING * index;
+    struct desterlin_finding finding;
+    finding.code = desterlin_word(octets, 0);
+    finding.row = desterlin_word(octets, 1);
+    finding.partner = desterlin_word(octets, 2);
+    return finding;
+}
+
+#ifdef __cplusplus
+}
+#endif
+
+#endif

@@ -1,0 +1,106 @@
+#include "cases.h"
+
+#include <stdio.h>
+#include <stdlib.h>
+#include <string.h>
+
+#include "status.h"
+
+static uint32_t listings_read, calls_read;
+
+static void broken(const char *words)
+{
+    fprintf(stderr, "compare: the stream of cases is broken: %s\n", words);
+    exit(NOT_COMPARED);
+}
+
+static void read_octets(struct octets *octets, size_t size)
+{
+    if (size > octets->room) {
+        octets->at = realloc(octets->at, size);
+        octets->room = size;
+        if (octets->at == NULL)
+            broken("too long for the memory");
+    }
+    octets->size = size;
+    if (size > 0 && fread(octets->at, 1, size, stdin) != size)
+        broken("it breaks off");
+}
+
+static uint64_t read_number(size_t size)
+{
+    uint8_t octets[8];
+    uint64_t number = 0;
+    if (fread(octets, 1, size, stdin) != size)
+        broken("it breaks off");
+    for (size_t i = size; i > 0; i--)
+        number = number << 8 | octets[i - 1];
+    return number;
+}
+
+static uint32_t read_u32(void)
+{
+    return (uint32_t)read_number(4);
+}
+
+static int64_t read_i64(void)
+{
+    return (int64_t)read_number(8);
+}
+
+void read_mark(void)
+{
+    static const char mark[] = "cases 1\n";
+    struct octets read = { 0 };
+    read_octets(&read, sizeof mark - 1);
+    if (memcmp(read.at, mark, read.size) != 0)
+        broken("it does not begin with its mark");
+    free(read.at);
+}
+
+static void check_end(void)
+{
+    if (read_u32() != listings_read || read_u32() != calls_read)
+        broken("its counts are not those of what it has");
+    if (getchar() != EOF)
+        broken("it goes on after its end");
+    if (calls_read == 0)
+        broken("it has no calls");
+}
+
+int read_listing(struct listing *listing)
+{
+    uint32_t tag = read_u32();
+    if (tag == 0) {
+        check_end();
+        return 0;
+    }
+    if (tag != 1)
+        broken("neither a listing nor the end");
+    read_octets(&listing->origin, read_u32());
+    read_octets(&listing->octets, read_u32());
+    listing->calls = read_u32();
+    listings_read++;
+    return 1;
+}
+
+void read_call(struct call *call)
+{
+    uint32_t asked = read_u32();
+    if (asked < REPORT || asked > LOOKUP)
+        broken("a call of no kind");
+    call->asked = (enum asked)asked;
+    call->number = read_u32();
+    call->zoom = read_i64();
+    call->column = read_i64();
+    call->row = read_i64();
+    call->findings_size = read_u32();
+    call->work_size = read_u32();
+    call->answer_size = read_u32();
+    call->fill = (uint8_t)read_u32();
+    call->returned = read_u32();
+    call->keeps_work = read_u32();
+    read_octets(&call->findings, call->findings_size);
+    read_octets(&call->answer, call->answer_size);
+    calls_read++;
+}

@@ -1,0 +1,185 @@
+//! Which calls to make on a listing: reports into buffers of many lengths, all
+//! verdicts, lookups; answers that are exact, longer and too short; `work` of
+//! no octets, of a few and of all that it can use.
+
+use super::{Asked, Call};
+use crate::calls::{report, Question};
+use crate::generate::{questions, Questions, Random};
+use crate::listing::layout::{CONTENTS, TILES};
+use crate::listing::{read, Listing};
+use crate::rules::WORDS_OF_A_FINDING;
+
+/// The `work` that serves every listing at full speed.
+const FULL_WORK: usize = 2 << 20;
+/// Octets of the answers of a report, of a verdict and of a lookup.
+const REPORT_ANSWER: usize = 20;
+const VERDICT_ANSWER: usize = 20;
+const LOOKUP_ANSWER: usize = 16;
+const FINDING: usize = 4 * WORDS_OF_A_FINDING;
+
+/// Without an index 541 takes as many steps as the square of the tiles. With
+/// many tiles few calls have too little `work` for it; with too many, none has.
+const MANY_TILES: usize = 1_000;
+const TOO_MANY_TILES: usize = 10_000;
+
+/// Codes that are asked of listings with too many tiles: those that search
+/// among the tiles or for each tile, one of each other table, and one that is
+/// none.
+const CODES_AT_SIZE: [u32; 12] = [101, 161, 341, 351, 411, 441, 541, 551, 561, 571, 622, 542];
+
+/// The calls to make on a listing, made from a seed.
+pub fn calls(seed: u64, octets: &[u8]) -> Vec<Call> {
+    let listing = read(octets).ok();
+    let tiles = listing.map_or(0, |listing| listing.count(TILES));
+    // Another stream of numbers than those of the listing and the questions.
+    let random = Random::new(seed ^ (1 << 63));
+    let mut choice = Choice { random, tiles, calls: Vec::new() };
+    let found = report(octets).map_or(0, |findings| findings.len());
+    let Questions { mut codes, lookups } = questions(seed, octets);
+    if tiles > TOO_MANY_TILES {
+        codes = CODES_AT_SIZE.to_vec();
+    }
+    choice.reports(found);
+    choice.verdicts(&codes);
+    choice.lookups(lookups, listing.as_ref());
+    choice.calls
+}
+
+struct Choice {
+    random: Random,
+    tiles: usize,
+    calls: Vec<Call>,
+}
+
+impl Choice {
+    fn call(&mut self, asked: Asked, findings: usize, work: usize, answer: usize) {
+        let fill = self.random.word() as u8;
+        self.calls.push(Call { asked, findings, work, answer, fill });
+    }
+
+    /// One call with `work` of no octets, of a few, of too few for an index and
+    /// of 2 MiB, all else alike: the same octets must come out.
+    fn call_with_each_work(&mut self, asked: Asked, findings: usize, answer: usize) {
+        let fill = self.random.word() as u8;
+        let few = 1 + self.random.below(64);
+        let too_few = self.random.below(1 + 8 * self.tiles);
+        let works = match self.tiles > TOO_MANY_TILES {
+            true => vec![FULL_WORK],
+            false => vec![0, few, too_few, FULL_WORK],
+        };
+        let call = |work| Call { asked, findings, work, answer, fill };
+        self.calls.extend(works.into_iter().map(call));
+    }
+
+    fn reports(&mut self, found: usize) {
+        let exact = found * FINDING;
+        self.call_with_each_work(Asked::Report, exact, REPORT_ANSWER);
+        for findings in self.findings_lengths(exact) {
+            let (work, answer) = (self.work(), self.long_enough(REPORT_ANSWER));
+            self.call(Asked::Report, findings, work, answer);
+        }
+        for answer in self.too_short(REPORT_ANSWER) {
+            let work = self.work();
+            self.call(Asked::Report, exact, work, answer);
+        }
+    }
+
+    fn verdicts(&mut self, codes: &[u32]) {
+        for &code in codes {
+            let (work, answer) = (self.work(), self.long_enough(VERDICT_ANSWER));
+            self.call(Asked::Verdict(code), 0, work, answer);
+        }
+        if self.tiles <= MANY_TILES {
+            self.call_with_each_work(Asked::Verdict(541), 0, VERDICT_ANSWER);
+        }
+        for answer in self.too_short(VERDICT_ANSWER) {
+            let (code, work) = (self.random.pick(codes), self.work());
+            self.call(Asked::Verdict(code), 0, work, answer);
+        }
+    }
+
+    fn lookups(&mut self, mut lookups: Vec<Question>, listing: Option<&Listing>) {
+        let asked = lookups[0];
+        if let Some(listing) = listing {
+            lookups.extend(existing(listing));
+            lookups.extend(refused(listing));
+        }
+        lookups.push(self.extreme(asked));
+        for question in lookups {
+            let answer = self.long_enough(LOOKUP_ANSWER);
+            self.call(Asked::Lookup(question), 0, 0, answer);
+        }
+        for answer in self.too_short(LOOKUP_ANSWER) {
+            self.call(Asked::Lookup(asked), 0, 0, answer);
+        }
+    }
+
+    /// Any length of `work`, often around what an index of the tiles takes:
+    /// 2 MiB serve the most tiles, so that is some 8 octets a tile.
+    fn work(&mut self) -> usize {
+        if self.tiles > MANY_TILES {
+            return FULL_WORK + self.random.below(3);
+        }
+        match self.random.below(32) {
+            0..=3 => 0,
+            4..=7 => 8 * self.tiles,
+            8..=11 => (8 * self.tiles).saturating_sub(1),
+            12..=19 => self.random.below(64),
+            // Seldom: to fill and to check that many octets takes the time.
+            20 => FULL_WORK,
+            _ => self.random.below(64 + 16 * self.tiles),
+        }
+    }
+
+    /// Lengths on both sides of each line: of a word, of a finding, of all.
+    fn findings_lengths(&mut self, exact: usize) -> Vec<usize> {
+        let within = self.random.below(exact + 1);
+        let short = exact.saturating_sub(1);
+        let longer = exact + 2 + self.random.below(60);
+        if self.tiles > MANY_TILES {
+            return vec![11, within, short, longer];
+        }
+        let mut lengths = vec![0, 1, 4, 11, 12, 13, within, short, exact + 1, longer];
+        lengths.sort_unstable();
+        lengths.dedup();
+        lengths
+    }
+
+    /// An answer buffer of its size or longer.
+    fn long_enough(&mut self, size: usize) -> usize {
+        match self.random.once_in(3) {
+            true => size + self.random.below(24),
+            false => size,
+        }
+    }
+
+    /// Answer buffers that are too short: by one, by any number, empty.
+    fn too_short(&mut self, size: usize) -> [usize; 3] {
+        [size - 1, self.random.below(size), 0]
+    }
+
+    /// A lookup whose numbers are as far out as numbers go.
+    fn extreme(&mut self, asked: Question) -> Question {
+        let mut far = || self.random.pick(&[i64::MIN, i64::MAX, -1, 1 << 32]);
+        Question { zoom: far(), column: far(), row: far(), ..asked }
+    }
+}
+
+/// The address of the first tile that has one under a contents row.
+fn existing(listing: &Listing) -> Option<Question> {
+    listing.tiles().find_map(|tile| {
+        let row = listing.contents().position(|contents| {
+            contents.data_type == b"tiles" && contents.table_name == tile.table_name
+        })?;
+        let (zoom, column) = (tile.zoom, tile.column);
+        Some(Question { contents_row: row as u32, zoom, column, row: tile.row })
+    })
+}
+
+/// Contents rows that are not there, and one that is not of tiles.
+fn refused(listing: &Listing) -> Vec<Question> {
+    let not_tiles = listing.contents().position(|contents| contents.data_type != b"tiles");
+    let rows = [Some(listing.count(CONTENTS)), Some(u32::MAX as usize), not_tiles];
+    let question = |row: usize| Question { contents_row: row as u32, zoom: 0, column: 0, row: 0 };
+    rows.into_iter().flatten().map(question).collect()
+}
