@@ -79,8 +79,8 @@ pub fn is_tiles_name(contents: &[u8], names: &[u8], x: Name) -> bool
     seek::first_content(contents, names, ContentTest::Tiles(x), n) < n
 }
 
-// 341, 391 and 431, by the name of the row.
-pub fn of_stray(contents: &[u8], names: &[u8], x: Name) -> Judgment
+// 341, 391, 431: by the name of the row.
+pub fn unless_tiles_name(contents: &[u8], names: &[u8], x: Name) -> Judgment
     ensures { λ r. ⌜ r ≡ faultIf (not (isTilesName (contentsOf (now (contents .entry)) (now (names .entry))) (spell (now (names .entry)) x))) ⌝ }
 {
     fault_if(!is_tiles_name(contents, names, x))

@@ -17,12 +17,12 @@ use seek::ExtensionTest;
 pub fn of_601(names: &[u8], e: ExtensionRow) -> Judgment
     ensures { λ r. ⌜ r ≡ of601 (extensionOf (now (names .entry)) e) ⌝ }
 {
+    let column = e.column;
+    let Text::Octets { .. } = column else {
+        return Judgment::Clean;
+    };
     let table = e.table;
-    let Text::Octets { start, len } = table else {
-        let column = e.column;
-        let Text::Octets { start, len } = column else {
-            return Judgment::Clean;
-        };
+    let Text::Octets { .. } = table else {
         return fault_if(true);
     };
     Judgment::Clean

@@ -18,11 +18,20 @@ mod references;
 mod sets;
 mod tiles;
 
-use contents::of_stray;
-use matrices::of_below;
-use matrices::of_size;
+use contents::unless_tiles_name;
+use matrices::if_below;
+use matrices::unless_positive;
 use references::lacks_id;
 use references::of_undefined;
+
+// For a search that finds the row by other means, as by an index.
+pub use judgments::partner_of;
+pub use judgments::unless_found;
+pub use matrices::measured_451;
+pub use matrices::measured_452;
+pub use tiles::of_551;
+pub use tiles::placed_561;
+pub use tiles::placed_571;
 
 // The pattern of -1.
 const MINUS_ONE: u64 = 18446744073709551615;
@@ -50,24 +59,24 @@ pub fn judge(
         151 => contents::of_151(names, contents_at(contents, i)),
         161 => contents::of_161(references, names, contents_at(contents, i)),
         162 => contents::of_162(sets, names, contents_at(contents, i)),
-        341 => of_stray(contents, names, tile_at(tiles, i).name),
+        341 => unless_tiles_name(contents, names, tile_at(tiles, i).name),
         351 => matrices::of_351(matrices, tiles, extensions, names, matrix_at(matrices, i)),
-        391 => of_stray(contents, names, set_at(sets, i).name),
+        391 => unless_tiles_name(contents, names, set_at(sets, i).name),
         392 => sets::of_392(sets, names, set_at(sets, i), i),
         401 => contents::of_401(sets, names, contents_at(contents, i)),
         411 => lacks_id(references, names, set_at(sets, i).srs_id),
-        431 => of_stray(contents, names, matrix_at(matrices, i).name),
+        431 => unless_tiles_name(contents, names, matrix_at(matrices, i).name),
         432 => matrices::of_432(matrices, names, matrix_at(matrices, i), i),
         441 => tiles::of_441(matrices, names, tile_at(tiles, i)),
         451 => matrices::of_451(sets, names, matrix_at(matrices, i)),
         452 => matrices::of_452(sets, names, matrix_at(matrices, i)),
-        461 => of_below(0, matrix_at(matrices, i).zoom),
-        471 => of_below(1, matrix_at(matrices, i).width),
-        481 => of_below(1, matrix_at(matrices, i).height),
-        491 => of_below(1, matrix_at(matrices, i).tile_width),
-        501 => of_below(1, matrix_at(matrices, i).tile_height),
-        511 => of_size(matrix_at(matrices, i).pixel_x),
-        521 => of_size(matrix_at(matrices, i).pixel_y),
+        461 => if_below(0, matrix_at(matrices, i).zoom),
+        471 => if_below(1, matrix_at(matrices, i).width),
+        481 => if_below(1, matrix_at(matrices, i).height),
+        491 => if_below(1, matrix_at(matrices, i).tile_width),
+        501 => if_below(1, matrix_at(matrices, i).tile_height),
+        511 => unless_positive(matrix_at(matrices, i).pixel_x),
+        521 => unless_positive(matrix_at(matrices, i).pixel_y),
         531 => matrices::of_531(matrices, names, matrix_at(matrices, i)),
         541 => tiles::of_541(tiles, names, tile_at(tiles, i), i),
         551 => tiles::of_551(matrices, names, tile_at(tiles, i)),

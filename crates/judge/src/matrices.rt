@@ -39,7 +39,7 @@ fn is_free(extensions: &[u8], names: &[u8], x: Name) -> bool
     seek::first_extension(extensions, names, ExtensionTest::Frees(x), n) < n
 }
 
-// The shortest table is searched first, that of the tiles last.
+// Most rows break nothing, so that is asked first; the tiles, of which there are most, are searched last.
 pub fn of_351(
     matrices: &[u8],
     tiles: &[u8],
@@ -103,28 +103,20 @@ pub fn measured_452(sets: &[u8], names: &[u8], m: MatrixRow, k: usize) -> Judgme
 pub fn of_451(sets: &[u8], names: &[u8], m: MatrixRow) -> Judgment
     ensures { λ r. ⌜ r ≡ of451 (setsOf (now (sets .entry)) (now (names .entry))) (matrixOf (now (names .entry)) m) ⌝ }
 {
-    measured_451(
-        sets,
-        names,
-        m,
-        first_named(sets, names, m.name, sets.len() / (SetTable::ROW as usize)),
-    )
+    let n = sets.len() / (SetTable::ROW as usize);
+    measured_451(sets, names, m, first_named(sets, names, m.name, n))
 }
 
 pub fn of_452(sets: &[u8], names: &[u8], m: MatrixRow) -> Judgment
     ensures { λ r. ⌜ r ≡ of452 (setsOf (now (sets .entry)) (now (names .entry))) (matrixOf (now (names .entry)) m) ⌝ }
 {
-    measured_452(
-        sets,
-        names,
-        m,
-        first_named(sets, names, m.name, sets.len() / (SetTable::ROW as usize)),
-    )
+    let n = sets.len() / (SetTable::ROW as usize);
+    measured_452(sets, names, m, first_named(sets, names, m.name, n))
 }
 
 // ---- 461, 471, 481, 491, 501: by the number, and the least that it may be
 
-pub fn of_below(least: u64, number: u64) -> Judgment
+pub fn if_below(least: u64, number: u64) -> Judgment
     ensures { λ r. ⌜ r ≡ faultIf (ltZ (signed number) (signed least)) ⌝ }
 {
     fault_if(octets::is_less(number, least))
@@ -132,7 +124,7 @@ pub fn of_below(least: u64, number: u64) -> Judgment
 
 // ---- 511, 521: by the pixel size
 
-pub fn of_size(size: f64) -> Judgment
+pub fn unless_positive(size: f64) -> Judgment
     ensures { λ r. ⌜ r ≡ faultIf (not (positive size)) ⌝ }
 {
     fault_if(!doubles::is_positive(size))

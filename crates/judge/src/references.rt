@@ -59,14 +59,14 @@ fn is_wrong_undefined(names: &[u8], id: u64, r: ReferenceRow) -> bool
     false
 }
 
-// 112 and 113, by the id of the undefined system.
+// 112, 113: by the id of the undefined system.
 pub fn of_undefined(names: &[u8], id: u64, r: ReferenceRow) -> Judgment
     ensures { λ v. ⌜ v ≡ faultIf (wrongUndefined (signed id) (referenceOf (now (names .entry)) r)) ⌝ }
 {
     fault_if(is_wrong_undefined(names, id, r))
 }
 
-// No reference row has the id: 161, 411, and the findings of 111, 112 and 113 without a row.
+// 161, 411, and 111, 112, 113 without a row: no reference row has the id.
 pub fn lacks_id(references: &[u8], names: &[u8], id: u64) -> Judgment
     ensures { λ v. ⌜ v ≡ lacksId (signed id) (referencesOf (now (references .entry)) (now (names .entry))) ⌝ }
 {

@@ -85,33 +85,23 @@ pub fn placed_571(matrices: &[u8], names: &[u8], t: TileRow, k: usize) -> Judgme
 pub fn of_561(matrices: &[u8], names: &[u8], t: TileRow) -> Judgment
     ensures { λ r. ⌜ r ≡ of561 (matricesOf (now (matrices .entry)) (now (names .entry))) (tileOf (now (names .entry)) t) ⌝ }
 {
+    let n = matrices.len() / (MatrixTable::ROW as usize);
     placed_561(
         matrices,
         names,
         t,
-        first_level(
-            matrices,
-            names,
-            t.name,
-            t.zoom,
-            matrices.len() / (MatrixTable::ROW as usize),
-        ),
+        first_level(matrices, names, t.name, t.zoom, n),
     )
 }
 
 pub fn of_571(matrices: &[u8], names: &[u8], t: TileRow) -> Judgment
     ensures { λ r. ⌜ r ≡ of571 (matricesOf (now (matrices .entry)) (now (names .entry))) (tileOf (now (names .entry)) t) ⌝ }
 {
+    let n = matrices.len() / (MatrixTable::ROW as usize);
     placed_571(
         matrices,
         names,
         t,
-        first_level(
-            matrices,
-            names,
-            t.name,
-            t.zoom,
-            matrices.len() / (MatrixTable::ROW as usize),
-        ),
+        first_level(matrices, names, t.name, t.zoom, n),
     )
 }

@@ -9,7 +9,7 @@ pub fn same_text(names: &[u8], a: Text, b: Text) -> bool
     ensures { λ r. ⌜ r ≡ bothSame (reads (now (names .entry)) a) (reads (now (names .entry)) b) ⌝ }
 {
     let Text::Octets { start, len } = a else {
-        return false;
+        return false; // NULL equals nothing
     };
     let x = Name { start, len };
     let Text::Octets { start, len } = b else {

@@ -2,3 +2,5 @@ pub mod Buffers
 pub mod BufferLaws
 pub mod Promises
 pub mod PromiseLaws
+pub mod Walks
+pub mod WalkLaws

@@ -4,6 +4,7 @@ mod buffer;
 mod full;
 mod rulings;
 mod search;
+mod tiles;
 mod walk;
 
 pub use answers::put_located;

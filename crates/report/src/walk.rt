@@ -1,6 +1,7 @@
 // The walk over the constant table of codes, code by code and row by row.
 ghost use mathlib.Core.Path.{_≡_};
-ghost use Prim.Native.Nat.{_+_, _<_, _≤_, _^_};
+ghost use Prim.Native.Nat.{_+_, _/_, _<_, _≤_, _^_};
+ghost use lib.ListN.{length};
 ghost use Rattle.octets.specs.Gather.{gather};
 ghost use mathlib.Core.Bool.{true};
 ghost use Rattle.listing.specs.Refusals.{outcome, isAccepted};
@@ -11,6 +12,9 @@ ghost use Rattle.findings.specs.OrderLaws.{Numbered};
 ghost use Rattle.report.specs.Buffers.{Added, noTally};
 use crate::Tally;
 use crate::buffer::add;
+use crate::tiles::add_341;
+use crate::tiles::add_541;
+use crate::tiles::add_placed;
 use listing::table_of;
 
 const NONE: usize = 4294967295;
@@ -76,6 +80,96 @@ fn add_rows(
     tally
 }
 
+// The findings of a code on tiles, by an index.
+fn add_tile_rows(
+    references: &[u8],
+    contents: &[u8],
+    sets: &[u8],
+    matrices: &[u8],
+    tiles: &[u8],
+    extensions: &[u8],
+    names: &[u8],
+    out: &mut [u8],
+    work: &mut [u8],
+    t: Tally,
+    code: u32,
+) -> Tally
+    requires { ⌜ t .total + length (now tiles) / 32 < 2 ^ 64 ⌝ }
+    ensures { λ r. ⌜ Added (gather (length (now (tiles .entry)) / 32) (atRow (packFrom (now (references .entry)) (now (contents .entry)) (now (sets .entry)) (now (matrices .entry)) (now (tiles .entry)) (now (extensions .entry)) (now (names .entry))) code)) (now (out .entry)) t (now (out .exit)) r ⌝ }
+{
+    match code {
+        341 => add_341(contents, tiles, names, out, work, t),
+        441 => add_placed(matrices, tiles, names, out, work, t, 441),
+        541 => add_541(tiles, names, out, work, t),
+        551 => add_placed(matrices, tiles, names, out, work, t, 551),
+        561 => add_placed(matrices, tiles, names, out, work, t, 561),
+        571 => add_placed(matrices, tiles, names, out, work, t, 571),
+        _ => add_rows(
+            references,
+            contents,
+            sets,
+            matrices,
+            tiles,
+            extensions,
+            names,
+            out,
+            t,
+            code,
+            tiles.len() / 32,
+        ),
+    }
+}
+
+// The findings of a code's rows, of which its table has n.
+fn add_table_rows(
+    references: &[u8],
+    contents: &[u8],
+    sets: &[u8],
+    matrices: &[u8],
+    tiles: &[u8],
+    extensions: &[u8],
+    names: &[u8],
+    out: &mut [u8],
+    work: &mut [u8],
+    t: Tally,
+    code: u32,
+    table: u32,
+    n: usize,
+) -> Tally
+    requires { ⌜ n ≡ rowsIn (packFrom (now references) (now contents) (now sets) (now matrices) (now tiles) (now extensions) (now names)) table ⌝ }
+    requires { ⌜ t .total + n < 2 ^ 64 ⌝ }
+    ensures { λ r. ⌜ Added (gather n (atRow (packFrom (now (references .entry)) (now (contents .entry)) (now (sets .entry)) (now (matrices .entry)) (now (tiles .entry)) (now (extensions .entry)) (now (names .entry))) code)) (now (out .entry)) t (now (out .exit)) r ⌝ }
+{
+    if table == 5 {
+        return add_tile_rows(
+            references,
+            contents,
+            sets,
+            matrices,
+            tiles,
+            extensions,
+            names,
+            out,
+            work,
+            t,
+            code,
+        );
+    }
+    add_rows(
+        references,
+        contents,
+        sets,
+        matrices,
+        tiles,
+        extensions,
+        names,
+        out,
+        t,
+        code,
+        n,
+    )
+}
+
 // The findings of a code: its table's rows, then the one without a row.
 pub fn add_code(
     references: &[u8],
@@ -105,7 +199,7 @@ pub fn add_code(
         names,
         table,
     );
-    let tally = add_rows(
+    let tally = add_table_rows(
         references,
         contents,
         sets,
@@ -114,8 +208,10 @@ pub fn add_code(
         extensions,
         names,
         out,
+        work,
         t,
         code,
+        table,
         n,
     );
     let v = judge::judge_none(

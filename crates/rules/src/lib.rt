@@ -10,10 +10,10 @@ pub enum Judgment {
 }
 
 // How many codes there are.
-pub const COUNT: usize = 36;
+pub const CODE_COUNT: usize = 36;
 
 // The codes, in the order of their findings.
-const CODES: [u32; COUNT] = [
+const CODES: [u32; CODE_COUNT] = [
     101,
     111,
     112,
@@ -53,7 +53,7 @@ const CODES: [u32; COUNT] = [
 ];
 
 // The table of each.
-const TABLES: [u32; COUNT] = [
+const TABLES: [u32; CODE_COUNT] = [
     1, // 101
     1, // 111
     1, // 112

@@ -12,4 +12,4 @@ is-tiles-name-spec =
     (tie.spec (λ c. search needs)
     (λ c. search needs)
     (λ c κs. search needs)
-    (λ c. cc))
+    (λ c. simp (← c .first-content .ensures)))

@@ -13,4 +13,4 @@ none-171-spec =
     (λ c. search needs)
     (λ c κs. search needs)
     (λ c κs. search needs)
-    (λ c. cc))
+    (λ c. simp (← c .before .first-content .ensures) (c .unless-found .ensures)))

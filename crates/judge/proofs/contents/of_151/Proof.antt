@@ -12,4 +12,4 @@ of-151-spec =
     (tie.spec (λ c κs. search needs)
     (λ c κs. search needs)
     (λ c κs. search needs)
-    (λ c. cc))
+    (λ c. simp (← c .before .before .spelled .ensures, ← c .before .is-date .ensures) (c .fault-if .ensures)))

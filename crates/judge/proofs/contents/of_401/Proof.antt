@@ -1,13 +1,13 @@
 -- `judge::contents/of_401` meets its contract.
 use Rattle.octets.specs.Search.{any}
 use Rattle.pack.specs.Tables.{contentOf}
-use Rattle.rules.specs.Contents.{ofType, of401}
+use Rattle.rules.specs.Contents.{of401}
 use borrow.Author.Needs.{needs}
 use Rattle.judge.proofs.contents.of_401.Statement.{statement}
 use Rattle.judge.proofs.contents.of_401.Tie as tie
 
 pub of-401-spec : {M : Type 1} → statement M
-unfolding of401 any contentOf
+unfolding of401 contentOf any
 of-401-spec =
     tie.close
     (tie.spec (λ c. search needs)
@@ -16,5 +16,5 @@ of-401-spec =
     (λ c. search needs)
     (λ c κs. search needs)
     (λ c κs. search needs)
-    (λ c. simp (← c .before .before .before .is-of-type .ensures, c .before .before .if1 .taken) (cc))
+    (λ c. simp (← c .before .before .before .is-of-type .ensures, c .before .before .if1 .taken, ← c .before .first-named .ensures) (c .unless-found .ensures))
     (λ c. simp (← c .before .is-of-type .ensures, c .if1 .left)))

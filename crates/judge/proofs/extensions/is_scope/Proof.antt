@@ -1,5 +1,5 @@
 -- `judge::extensions/is_scope` meets its contract.
-use Rattle.judge.proofs.Laws.{tests}
+use Rattle.seek.specs.TestLaws.{tests}
 use borrow.Author.Needs.{needs}
 use Rattle.judge.proofs.extensions.is_scope.Statement.{statement}
 use Rattle.judge.proofs.extensions.is_scope.Tie as tie
@@ -9,7 +9,7 @@ is-scope-spec =
     tie.close
     (tie.spec (λ c. search needs)
     (λ c κs. search needs)
-    (λ c. search tests)
+    (λ c. search (tests, needs))
     (λ c. search needs)
     (λ c κs. search needs)
-    (λ c. search tests))
+    (λ c. search (tests, needs)))

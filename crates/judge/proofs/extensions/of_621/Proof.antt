@@ -11,4 +11,4 @@ of-621-spec =
     tie.close
     (tie.spec (λ c κs. search needs)
     (λ c κs. search needs)
-    (λ c. cc))
+    (λ c. simp (← c .before .is-extension-name .ensures) (c .fault-if .ensures)))

@@ -10,4 +10,4 @@ of-622-spec =
     tie.close
     (tie.spec (λ c κs. search needs)
     (λ c κs. search needs)
-    (λ c. cc))
+    (λ c. simp (← c .before .first-extension .ensures) (c .partner-of .ensures)))

@@ -11,4 +11,4 @@ of-641-spec =
     tie.close
     (tie.spec (λ c κs. search needs)
     (λ c κs. search needs)
-    (λ c. cc))
+    (λ c. simp (← c .before .is-scope .ensures) (c .fault-if .ensures)))

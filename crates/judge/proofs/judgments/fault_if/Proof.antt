@@ -1,5 +1,4 @@
 -- `judge::judgments/fault_if` meets its contract.
-use borrow.Author.Needs.{needs}
 use Rattle.judge.proofs.judgments.fault_if.Statement.{statement}
 use Rattle.judge.proofs.judgments.fault_if.Tie as tie
 

@@ -1,7 +1,6 @@
 -- `judge::judgments/partner_of` meets its contract.
 use borrow.Author.Tests.{lt-ltb, le-ltb}
 use Rattle.rules.specs.Judgments.{partner}
-use borrow.Author.Needs.{needs}
 use Rattle.judge.proofs.judgments.partner_of.Statement.{statement}
 use Rattle.judge.proofs.judgments.partner_of.Tie as tie
 

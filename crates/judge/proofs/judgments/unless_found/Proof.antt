@@ -1,6 +1,5 @@
 -- `judge::judgments/unless_found` meets its contract.
 use borrow.Author.Tests.{lt-ltb, le-ltb}
-use borrow.Author.Needs.{needs}
 use Rattle.judge.proofs.judgments.unless_found.Statement.{statement}
 use Rattle.judge.proofs.judgments.unless_found.Tie as tie
 

@@ -11,4 +11,4 @@ is-free-spec =
     (tie.spec (λ c. search needs)
     (λ c. search needs)
     (λ c κs. search needs)
-    (λ c. cc))
+    (λ c. simp (← c .first-extension .ensures)))

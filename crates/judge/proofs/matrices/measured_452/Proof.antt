@@ -15,5 +15,5 @@ measured-452-spec =
     (λ c κs. search needs)
     (λ c κs. search needs)
     (λ c κs. search needs)
-    (λ c. simp (lt-ltb _ _ (c .before .before .before .if1 .taken)) (cc))
+    (λ c. simp (lt-ltb _ _ (c .before .before .before .if1 .taken), ← c .before .before .set-at .ensures, ← c .before .spans-y .ensures) (c .fault-if .ensures))
     (λ c. simp (le-ltb _ _ (c .if1 .left))))

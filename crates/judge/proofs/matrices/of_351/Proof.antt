@@ -1,5 +1,5 @@
 -- `judge::matrices/of_351` meets its contract.
-use Rattle.judge.proofs.Laws.{was-yes, was-no, kept-351, free-351, bare-351, broken-351}
+use Rattle.judge.proofs.Laws.{gates}
 use Rattle.pack.specs.Tables.{matrixOf}
 use Rattle.rules.specs.Matrices.{of351}
 use borrow.Author.Needs.{needs}
@@ -13,9 +13,9 @@ of-351-spec =
     (tie.spec (λ c. search needs)
     (λ c. search needs)
     (λ c κs. search needs)
-    (λ c. search (was-yes, was-no, kept-351, free-351, bare-351, broken-351, needs))
+    (λ c. search gates)
     (λ c κs. search needs)
-    (λ c. search (was-yes, was-no, kept-351, free-351, bare-351, broken-351, needs))
+    (λ c. search gates)
     (λ c κs. search needs)
-    (λ c. search (was-yes, was-no, kept-351, free-351, bare-351, broken-351, needs))
-    (λ c. search (was-yes, was-no, kept-351, free-351, bare-351, broken-351, needs)))
+    (λ c. search gates)
+    (λ c. search gates))

@@ -11,4 +11,4 @@ of-432-spec =
     tie.close
     (tie.spec (λ c κs. search needs)
     (λ c κs. search needs)
-    (λ c. cc))
+    (λ c. simp (← c .before .first-level .ensures) (c .partner-of .ensures)))

@@ -13,4 +13,4 @@ of-451-spec =
     (λ c. search needs)
     (λ c κs. search needs)
     (λ c κs. search needs)
-    (λ c. cc))
+    (λ c. simp (← c .before .first-named .ensures) (c .measured-451 .ensures)))

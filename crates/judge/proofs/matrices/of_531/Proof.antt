@@ -12,4 +12,4 @@ of-531-spec =
     (λ c. search needs)
     (λ c κs. search needs)
     (λ c κs. search needs)
-    (λ c. cc))
+    (λ c. simp (← c .before .first-matrix .ensures) (c .partner-of .ensures)))

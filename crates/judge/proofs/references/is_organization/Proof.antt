@@ -10,4 +10,4 @@ is-organization-spec =
     tie.close
     (tie.spec (λ c κs. search needs)
     (λ c κs. search needs)
-    (λ c. cc))
+    (λ c. simp (← c .before .spelled .ensures) (c .is-in-any-case .ensures)))

@@ -1,5 +1,5 @@
 -- `judge::references/is_wrong_111` meets its contract.
-use Rattle.judge.proofs.Laws.{tests}
+use Rattle.judge.proofs.Laws.{wrongs}
 use Rattle.pack.specs.Tables.{referenceOf}
 use Rattle.rules.specs.References.{hasId, wrong111}
 use borrow.Author.Needs.{needs}
@@ -14,6 +14,6 @@ is-wrong-111-spec =
     (λ c κs. search needs)
     (λ c. search needs)
     (λ c κs. search needs)
-    (λ c. search tests)
-    (λ c. search tests)
-    (λ c. search tests))
+    (λ c. search wrongs)
+    (λ c. search wrongs)
+    (λ c. search wrongs))

@@ -1,5 +1,5 @@
 -- `judge::references/is_wrong_undefined` meets its contract.
-use Rattle.judge.proofs.Laws.{tests}
+use Rattle.judge.proofs.Laws.{wrongs}
 use Rattle.pack.specs.Tables.{referenceOf}
 use Rattle.rules.specs.References.{hasId, wrongUndefined}
 use borrow.Author.Needs.{needs}
@@ -16,7 +16,7 @@ is-wrong-undefined-spec =
     (λ c κs. search needs)
     (λ c. search needs)
     (λ c κs. search needs)
-    (λ c. search tests)
-    (λ c. search tests)
-    (λ c. search tests)
-    (λ c. search tests))
+    (λ c. search wrongs)
+    (λ c. search wrongs fits 4000)
+    (λ c. search wrongs)
+    (λ c. search wrongs))

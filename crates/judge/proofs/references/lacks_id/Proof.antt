@@ -13,4 +13,4 @@ lacks-id-spec =
     (λ c. search needs)
     (λ c κs. search needs)
     (λ c κs. search needs)
-    (λ c. cc))
+    (λ c. simp (← c .before .first-id .ensures) (c .unless-found .ensures)))

@@ -10,4 +10,4 @@ of-111-spec =
     tie.close
     (tie.spec (λ c κs. search needs)
     (λ c κs. search needs)
-    (λ c. cc))
+    (λ c. simp (← c .before .is-wrong-111 .ensures) (c .fault-if .ensures)))

@@ -8,4 +8,4 @@ of-undefined-spec =
     tie.close
     (tie.spec (λ c κs. search needs)
     (λ c κs. search needs)
-    (λ c. cc))
+    (λ c. simp (← c .before .is-wrong-undefined .ensures) (c .fault-if .ensures)))

@@ -11,4 +11,4 @@ of-392-spec =
     tie.close
     (tie.spec (λ c κs. search needs)
     (λ c κs. search needs)
-    (λ c. cc))
+    (λ c. simp (← c .before .first-named .ensures) (c .partner-of .ensures)))

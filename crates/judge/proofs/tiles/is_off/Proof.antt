@@ -1,5 +1,5 @@
 -- `judge::tiles/is_off` meets its contract.
-use Rattle.judge.proofs.Laws.{tests}
+use Rattle.judge.proofs.Laws.{wrongs}
 use Rattle.rules.specs.Tiles.{offGrid}
 use borrow.Author.Needs.{needs}
 use Rattle.judge.proofs.tiles.is_off.Statement.{statement}
@@ -10,6 +10,6 @@ unfolding offGrid
 is-off-spec =
     tie.close
     (tie.spec (λ c κs. search needs)
-    (λ c. search tests)
+    (λ c. search wrongs)
     (λ c κs. search needs)
-    (λ c. search tests))
+    (λ c. search wrongs))

@@ -7,11 +7,11 @@ use Rattle.judge.proofs.tiles.of_441.Statement.{statement}
 use Rattle.judge.proofs.tiles.of_441.Tie as tie
 
 pub of-441-spec : {M : Type 1} → statement M
-unfolding of441 any tileOf
+unfolding of441 tileOf any
 of-441-spec =
     tie.close
     (tie.spec (λ c. search needs)
     (λ c. search needs)
     (λ c κs. search needs)
     (λ c κs. search needs)
-    (λ c. cc))
+    (λ c. simp (← c .before .first-level .ensures) (c .unless-found .ensures)))

@@ -11,4 +11,4 @@ of-541-spec =
     tie.close
     (tie.spec (λ c κs. search needs)
     (λ c κs. search needs)
-    (λ c. cc))
+    (λ c. simp (← c .before .first-tile .ensures) (c .partner-of .ensures)))

@@ -13,4 +13,4 @@ of-561-spec =
     (λ c. search needs)
     (λ c κs. search needs)
     (λ c κs. search needs)
-    (λ c. cc))
+    (λ c. simp (← c .before .first-level .ensures) (c .placed-561 .ensures)))

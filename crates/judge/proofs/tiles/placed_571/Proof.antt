@@ -15,5 +15,5 @@ placed-571-spec =
     (λ c κs. search needs)
     (λ c κs. search needs)
     (λ c κs. search needs)
-    (λ c. simp (lt-ltb _ _ (c .before .before .before .if1 .taken)) (cc))
+    (λ c. simp (lt-ltb _ _ (c .before .before .before .if1 .taken), ← c .before .before .matrix-at .ensures, ← c .before .is-off .ensures) (c .fault-if .ensures))
     (λ c. simp (le-ltb _ _ (c .if1 .left))))

@@ -14,20 +14,21 @@ add-code-spec =
     tie.close
     (tie.spec (λ c κs. search needs)
     (λ c κs.
-    let r = c .before in
+    let r = c .before .before in
     let st = r .before .before .before .before .before .before .before .before .before .before in
-    omega (arith, r .rows-in .ensures, st .pre .0 (st .args .table), st .pre .1))
+    (r .rows-in .ensures, omega (arith, r .rows-in .ensures, st .pre .0 (st .args .table), st .pre .1)))
     (λ c κs. search needs)
     (λ c κs.
-    let q = c .before .before .before .before in
-    let r = q .before .before in
+    let q = c .before .before .before .before .before .before in
+    let r = q .before .before .before in
     let st = r .before .before .before .before .before .before .before .before .before .before in
     let a = st .args in
-    omega (arith, q .add-rows .ensures .count, rows-length (packFrom (a .references .now) (a .contents .now) (a .sets .now) (a .matrices .now) (a .tiles .now) (a .extensions .now) (a .names .now)) (a .code) (r .rows-in .result), r .rows-in .ensures, st .pre .0 (a .table), st .pre .1))
+    omega (arith, q .add-table-rows .ensures .count, rows-length (packFrom (a .references .now) (a .contents .now) (a .sets .now) (a .matrices .now) (a .tiles .now) (a .extensions .now) (a .names .now)) (a .code) (r .rows-in .result), r .rows-in .ensures, st .pre .0 (a .table), st .pre .1))
+    (λ c. search needs)
     (λ c. search needs)
     (λ c.
     let e = c .before .before in
     let j = e .before .before in
-    let q = j .before .before .before in
-    let r = q .before .before in
-    added-append (rw (r .rows-in .ensures) at (q .add-rows .ensures)) (rw (j .judge-none .ensures) at (e .add .ensures))))
+    let q = j .before .before .before .before .before in
+    let r = q .before .before .before in
+    added-append (rw (r .rows-in .ensures) at (q .add-table-rows .ensures)) (rw (j .judge-none .ensures) at (e .add .ensures))))

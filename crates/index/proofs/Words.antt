@@ -1,0 +1,150 @@
+-- The laws of words that are written, and of the index that they make.
+use Prim.Native.Nat.{ℕ, suc, _+_, _-_, _*_, _/_, _%_, _<_, _≤_}
+use mathlib.Core.Path.{_≡_, sym, ap, _∙_, subst}
+use mathlib.Core.List.{List}
+use mathlib.Core.Bool.{Bool, true, false}
+use native.Mathlib.Omega.{arith}
+use native.Mathlib.Nat.{div-div-eq-div-mul, div-add-mod'}
+use native.Mathlib.Numerals.{add-one}
+use borrow.Author.Tests.{le-leb, ltb-true, ltb-false}
+use lib.Dec.{ltb}
+use lib.ListN.{length, getD, set, length-set}
+use lib.Seq.{getD-set-same, getD-set-other}
+use Rattle.octets.specs.Octets.{le32}
+use Rattle.index.specs.Chains.{isEntry, Index}
+use Rattle.index.specs.ChainLaws.{by-test, newest-le, index-none, index-old, index-new}
+use Rattle.index.specs.Work.{wordAt, putWord, pushed, Indexed, odd, headsFor, Ready}
+
+pub length-put : (w : List ℕ) (j x : ℕ) → length (putWord w j x) ≡ length w
+unfolding putWord
+length-put w j x = simp length-set
+
+-- the octets before the second, the third and the fourth is written
+abbrev put1 : List ℕ → ℕ → ℕ → List ℕ
+put1 w at x = set w at (x % 256)
+
+abbrev put2 : List ℕ → ℕ → ℕ → List ℕ
+put2 w at x = set (put1 w at x) (suc at) (x / 256 % 256)
+
+abbrev put3 : List ℕ → ℕ → ℕ → List ℕ
+put3 w at x = set (put2 w at x) (suc (suc at)) (x / 65536 % 256)
+
+digits : (x q1 q2 q3 r0 r1 r2 r3 : ℕ) → q1 * 256 + r0 ≡ x → q2 * 256 + r1 ≡ q1 → q3 * 256 + r2 ≡ q2 → r3 ≡ q3 → r0 + 256 * r1 + 65536 * r2 + 16777216 * r3 ≡ x
+digits x q1 q2 q3 r0 r1 r2 r3 a b c d = omega arith
+
+-- the word that was written
+pub word-same : (w : List ℕ) (j x : ℕ) → 4 * j + 4 ≤ length w → x < 4294967296 → wordAt (putWord w j x) j ≡ x
+unfolding wordAt le32 putWord
+word-same w j x h b =
+    let at : ℕ = 4 * j in
+    let d3 = x / 16777216 % 256 in
+    let s1 : at + 1 ≡ suc at = omega arith in
+    let s2 : at + 2 ≡ suc (suc at) = omega arith in
+    let s3 : at + 3 ≡ suc (suc (suc at)) = omega arith in
+    let e0 = getD-set-other (put3 w at x) (suc (suc (suc at))) at d3 0 (λ q. omega arith)
+    ∙ getD-set-other (put2 w at x) (suc (suc at)) at (x / 65536 % 256) 0 (λ q. omega arith)
+    ∙ getD-set-other (put1 w at x) (suc at) at (x / 256 % 256) 0 (λ q. omega arith)
+    ∙ getD-set-same w at (x % 256) 0 (omega arith) in
+    let e1 = getD-set-other (put3 w at x) (suc (suc (suc at))) (suc at) d3 0 (λ q. omega arith)
+    ∙ getD-set-other (put2 w at x) (suc (suc at)) (suc at) (x / 65536 % 256) 0 (λ q. omega arith)
+    ∙ getD-set-same (put1 w at x) (suc at) (x / 256 % 256) 0 (simp length-set (omega arith)) in
+    let e2 = getD-set-other (put3 w at x) (suc (suc (suc at))) (suc (suc at)) d3 0 (λ q. omega arith)
+    ∙ getD-set-same (put2 w at x) (suc (suc at)) (x / 65536 % 256) 0 (simp length-set (omega arith)) in
+    let e3 = getD-set-same (put3 w at x) (suc (suc (suc at))) d3 0 (simp length-set (omega arith)) in
+    simp (length-set, le-leb _ _ h)
+    (rw (s1, s2, s3, e0, e1, e2, e3)
+    (digits x (x / 256) (x / 65536) (x / 16777216) (x % 256) (x / 256 % 256) (x / 65536 % 256) d3
+    (div-add-mod' x 256)
+    (rw (← div-div-eq-div-mul x 256 256) (div-add-mod' (x / 256) 256))
+    (rw (← div-div-eq-div-mul x 65536 256) (div-add-mod' (x / 65536) 256))
+    (omega arith)))
+
+-- an octet of another word
+octet-other : (w : List ℕ) (j x p : ℕ) → (p / 4 ≡ j → ⊥) → getD (putWord w j x) p 0 ≡ getD w p 0
+unfolding putWord
+octet-other w j x p o =
+    let at : ℕ = 4 * j in
+    getD-set-other (put3 w at x) (suc (suc (suc at))) p (x / 16777216 % 256) 0 (λ q. o (omega arith))
+    ∙ getD-set-other (put2 w at x) (suc (suc at)) p (x / 65536 % 256) 0 (λ q. o (omega arith))
+    ∙ getD-set-other (put1 w at x) (suc at) p (x / 256 % 256) 0 (λ q. o (omega arith))
+    ∙ getD-set-other w at p (x % 256) 0 (λ q. o (omega arith))
+
+-- another word keeps its value
+pub word-other : (w : List ℕ) (i j x : ℕ) → (j ≡ i → ⊥) → wordAt (putWord w i x) j ≡ wordAt w j
+unfolding wordAt le32
+word-other w i j x n =
+    rw (
+      length-put w i x,
+      octet-other w i x (4 * j) (λ q. n (omega arith)),
+      octet-other w i x (4 * j + 1) (λ q. n (omega arith)),
+      octet-other w i x (4 * j + 2) (λ q. n (omega arith)),
+      octet-other w i x (4 * j + 3) (λ q. n (omega arith)),
+    )
+
+-- a word of octets that are 0
+pub word-zero : (w : List ℕ) (h m : ℕ) → h < m → 4 * m ≤ length w → ((k : ℕ) → k < 4 * m → getD w k 0 ≡ 0) → wordAt w h ≡ 0
+unfolding wordAt le32
+word-zero w h m b l z =
+    simp (le-leb (4 * h + 4) (length w) (omega arith))
+    (rw (z (4 * h) (omega arith), z (4 * h + 1) (omega arith), z (4 * h + 2) (omega arith), z (4 * h + 3) (omega arith)))
+
+-- ---- the index in these words
+module _ (fits : ℕ → ℕ → Bool) (hash : ℕ → ℕ) (w : List ℕ) (m rows : ℕ) where
+  pub indexed-none : 0 < m → 4 * (m + rows) ≤ length w → rows < 4294967295 → ((h : ℕ) → h < m → wordAt w h ≡ 0) → Indexed fits hash w m rows 0
+  indexed-none s r l z = record { some = s; room = r; small = l; index = index-none fits hash m (wordAt w) (λ k. wordAt w (m + k)) z }
+
+  module _ (i : ℕ) (x : Indexed fits hash w m rows i) where
+    pub indexed-old : isEntry fits i ≡ false → Indexed fits hash w m rows (i + 1)
+    indexed-old o = record {
+      some = x .some;
+      room = x .room;
+      small = x .small;
+      index = rw add-one (index-old fits hash m (wordAt w) (λ k. wordAt w (m + k)) i (x .index) o);
+    }
+
+    pub indexed-new : i < rows → isEntry fits i ≡ true → (h : ℕ) → h ≡ hash i → h < m → Indexed fits hash (pushed w m h i) m rows (i + 1)
+    unfolding pushed
+    indexed-new c o h e l = record {
+      some = x .some;
+      room = simp length-put (x .room);
+      small = x .small;
+      index = subst (λ (q : ℕ). Index fits hash m (wordAt w2) (λ k. wordAt w2 (m + k)) q) (sym (add-one i))
+          (index-new fits hash m (wordAt w) (λ k. wordAt w (m + k)) (wordAt w2) (λ k. wordAt w2 (m + k)) i
+          (x .index) o (rw e at l)
+          (rw (← e) (word-same w1 h (i + 1) (simp length-put (omega (arith, x .room))) (omega (arith, x .small)) ∙ add-one i))
+          (λ g b q. word-other w1 h g (i + 1) (λ r. q (r ∙ e)) ∙ word-other w (m + i) g (wordAt w h) (λ r. omega arith))
+          (rw (← e) (word-other w1 h (m + i) (i + 1) (λ r. omega arith) ∙ word-same w (m + i) (wordAt w h) (omega (arith, x .room)) (omega (arith, x .small, x .index .head h l, newest-le fits hash h i))))
+          (λ k b. word-other w1 h (m + k) (i + 1) (λ r. omega arith) ∙ word-other w (m + i) (m + k) (wordAt w h) (λ r. omega arith)));
+    }
+      where
+        w1 : List ℕ
+        w1 = putWord w (m + i) (wordAt w h)
+
+        w2 : List ℕ
+        w2 = putWord w1 h (i + 1)
+
+-- ---- how many heads
+-- where there are some, they and the links have room, and a row and one is a u32
+pub heads-fit : (words rows m : ℕ) → m ≡ headsFor words rows → (m ≡ 0 → ⊥) → (m + rows ≤ words) × (rows < 4294967295)
+unfolding headsFor
+heads-fit words rows m e s =
+    by-test (ltb rows 4294967295)
+    (λ a.
+    by-test (ltb rows words)
+    (λ b.
+    by-test (ltb (words - rows) (rows + 64))
+    (λ c. let q = simp (a, b, c) at e in (omega (arith, ltb-true rows words b), ltb-true rows 4294967295 a))
+    (λ c. let q = simp (a, b, c) at e in (omega (arith, ltb-true rows words b, ltb-false (words - rows) (rows + 64) c), ltb-true rows 4294967295 a)))
+    (λ b. absurd (s (simp (a, b) at e))))
+    (λ a. absurd (s (simp a at e)))
+
+module _ (w : List ℕ) (m rows : ℕ) where
+  -- no head, no index
+  pub ready-none : m ≡ 0 → Ready w m rows
+  ready-none e = record { there = λ fits hash s. absurd (s e) }
+
+  -- every head is 0
+  pub ready-clear : (n : ℕ) → length w ≡ n → m ≡ headsFor (n / 4) rows → ((h : ℕ) → h < m → wordAt w h ≡ 0) → Ready w m rows
+  ready-clear n l e z = record {
+    there = λ fits hash s. let f = heads-fit (n / 4) rows m e s in indexed-none fits hash w m rows (omega arith) (omega arith) (f .1) z;
+  }

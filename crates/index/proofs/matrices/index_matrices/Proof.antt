@@ -1,0 +1,33 @@
+-- `index::matrices/index_matrices` meets its contract.
+use Prim.Native.Nat.{_-_, _≤_}
+use mathlib.Core.Path.{_≡_, refl, _∙_}
+use native.Mathlib.Omega.{arith}
+use lib.ListN.{length}
+use Rattle.index.specs.UseLaws.{keyed-start}
+use Rattle.index.proofs.Entering.{keyed-none, keyed-all}
+use Rattle.index.specs.Keys.{MatrixIndexed}
+use borrow.Author.Needs.{needs}
+use Rattle.index.proofs.matrices.index_matrices.Statement.{statement}
+use Rattle.index.proofs.matrices.index_matrices.Tie as tie
+
+abbrev Inv-loop : tie.InvT-loop
+Inv-loop matrices names work₀ n m i₀ work i = (i ≤ n) × MatrixIndexed matrices names work m i × (length work ≡ length work₀)
+
+abbrev μ-loop : tie.MeasureT-loop
+μ-loop matrices names work₀ n m i₀ work i = n - i
+
+pub index-matrices-spec : {M : Type 1} → statement M
+index-matrices-spec =
+    tie.close
+    (tie.spec Inv-loop
+    μ-loop
+    (λ c κs. search needs)
+    (λ c. omega arith)
+    (λ c. (c .before .before .before .start .ensures .0, keyed-none (c .if1 .taken)))
+    (λ c. (omega arith, keyed-start (c .before .before .before .start .ensures .1), refl))
+    (λ c κs. (c .before .before .loop .inv .1, omega arith))
+    (λ c. omega arith)
+    (λ c. omega arith)
+    (λ c. let called = c .before .before .enter-matrix in (omega arith, called .ensures .indexed, called .kept .1 .1 .0 ∙ c .before .before .before .before .before .loop .inv .2))
+    (λ c. omega arith)
+    (λ c. (c .before .before .before .before .before .start .ensures .0, keyed-all (c .before .loop .inv .1) (omega arith))))

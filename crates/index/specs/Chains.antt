@@ -1,0 +1,33 @@
+-- A chained index of rows by their keys. Rows are numbers, and nothing is known of what they hold:
+-- `fits x k` says that row k answers to the key of row x, and `hash k` is a function of the key of row k.
+use Prim.Native.Nat.{ℕ, zero, suc, _<_, _≤_}
+use mathlib.Core.Path.{_≡_}
+use mathlib.Core.Bool.{Bool, true, cond, _&&_}
+use lib.Dec.{eqb}
+use Rattle.octets.specs.Search.{first}
+
+-- row k is entered: it is the lowest row that answers to its own key. Rows like an earlier one are not, so that many equal rows stay cheap
+unfoldable pub isEntry : (ℕ → ℕ → Bool) → ℕ → Bool
+isEntry fits k = eqb (first (fits k) (suc k)) k
+
+-- the highest of the rows below n that is entered and has the hash h, and one; 0 where there is none
+unfoldable pub newest : (ℕ → ℕ → Bool) → (ℕ → ℕ) → ℕ → ℕ → ℕ
+newest fits hash h zero = zero
+newest fits hash h (suc n) = cond (isEntry fits n && eqb (hash n) h) (suc n) (newest fits hash h n)
+
+-- heads and next index the rows below n: heads has the newest row of each hash below m, and next, for each row entered, the next older one of its hash
+pub record Index (fits : ℕ → ℕ → Bool) (hash : ℕ → ℕ) (m : ℕ) (heads next : ℕ → ℕ) (n : ℕ) : Type 0 where
+  pub head : (h : ℕ) → h < m → heads h ≡ newest fits hash h n
+  pub link : (k : ℕ) → k < n → isEntry fits k ≡ true → next k ≡ newest fits hash (hash k) k
+
+-- a test that asks for one key, of hash h: each row that passes has that hash, and the rows that answer to its key are those that pass
+pub record Asks (fits : ℕ → ℕ → Bool) (hash : ℕ → ℕ) (test : ℕ → Bool) (h : ℕ) : Type 0 where
+  pub blind : (k : ℕ) → test k ≡ true → hash k ≡ h
+  pub alike : (k : ℕ) → test k ≡ true → (j : ℕ) → fits k j ≡ test j
+
+-- a walk for the lowest of the rows below n that passes has come to the word j: that row, if there is one, is below j,
+-- and row j - 1, where j is not 0, is entered and has the hash
+pub record Walk (fits : ℕ → ℕ → Bool) (hash : ℕ → ℕ) (test : ℕ → Bool) (h n j : ℕ) : Type 0 where
+  pub low : j ≤ n
+  pub rest : first test n < n → first test n < j
+  pub chain : newest fits hash h j ≡ j

@@ -1,0 +1,375 @@
+/*
+ * Damaged listings through the three calls, to see that each keeps its promises about the buffers that it is lent.
+ *
+ *     fuzz COUNT SEED LISTING ..
+ *
+ * Input i is decided by SEED + i alone, so `fuzz 1 NUMBER LISTING ..` repeats the one that a message names. Each buffer
+ * ends at a wall, with sentinels before it, and starts at any alignment. That the answers are right is not tested here
+ * (tests/second does that), only that the three calls agree with each other.
+ *
+ * Exit status: 0 every promise kept; 1 one broken; 2 called wrongly.
+ */
+#include <inttypes.h>
+#include <signal.h>
+#include <stdio.h>
+#include <stdlib.h>
+#include <string.h>
+
+#include "damage.h"
+#include "desterlin.h"
+#include "walled.h"
+
+enum {
+    MOST_LISTINGS = 64,
+    LISTING_ROOM = 66000,
+    FINDINGS_ROOM = 60000,
+    ANSWER_ROOM = 40,
+    SENTINELS = 64,
+    FILLINGS = 251,
+    SMALL_LISTING = 4096,
+    MOST_REASON = 10
+};
+
+static const uint32_t codes[] = {
+#define CODE(code, table, words) code,
+    DESTERLIN_CODES(CODE)
+#undef CODE
+};
+
+/* A buffer in its room, filled from this place of the filling on. */
+struct lent {
+    uint8_t *octets;
+    size_t size;
+    size_t fill;
+};
+
+static struct {
+    size_t count;
+    uint8_t *octets[MOST_LISTINGS];
+    size_t size[MOST_LISTINGS];
+} listings;
+
+/* Where the buffers of each kind end. */
+static struct {
+    uint8_t *listing, *findings, *work, *answer;
+} walls;
+
+/* What the tried inputs came to; a fuzzer that is always refused tests little. */
+static struct {
+    unsigned long reasons[MOST_REASON + 1], with_findings, without_findings, tiles_found;
+} tally;
+
+static volatile uint64_t input_number;
+static uint8_t original[LISTING_ROOM];
+
+/* What buffers hold before a call: octets that differ from their neighbours, and from call to call by the place from
+   which they are taken. */
+static uint8_t filling[DESTERLIN_WORK_FULL + SENTINELS + FILLINGS];
+
+static void check(int is_kept, const char *promise)
+{
+    if (!is_kept) {
+        printf("input %" PRIu64 ": broken promise: %s\n", input_number, promise);
+        exit(1);
+    }
+}
+
+/* A touch of a wall, or a trap of the sanitizer: say which input it was, then fail as one fails without this. */
+static void tell_input(int number)
+{
+    char line[64];
+    int size = snprintf(line, sizeof line, "input %" PRIu64 ": signal %d\n", input_number, number);
+    if (size > 0)
+        fwrite(line, 1, (size_t)size, stderr);
+    signal(number, SIG_DFL);
+}
+
+static struct lent lend(struct chance *chance, uint8_t *wall, size_t size)
+{
+    struct lent lent = { wall - size, size, draw_below(chance, FILLINGS) };
+    memcpy(lent.octets - SENTINELS, filling + lent.fill, SENTINELS + size);
+    /* An empty buffer may have any pointer. */
+    if (size == 0 && draw_below(chance, 2) == 0)
+        lent.octets = NULL;
+    return lent;
+}
+
+/* Are the octets from this place on, and the sentinels before the buffer, as they were lent? */
+static int keeps(struct lent lent, size_t from)
+{
+    return lent.octets == NULL
+        || (memcmp(lent.octets - SENTINELS, filling + lent.fill, SENTINELS) == 0
+            && memcmp(lent.octets + from, filling + lent.fill + SENTINELS + from, lent.size - from) == 0);
+}
+
+static struct lent lend_input(struct chance *chance)
+{
+    static uint8_t draft[LISTING_ROOM];
+    size_t which = draw_below(chance, listings.count);
+    /* Long listings take long; they come seldom. */
+    for (int tries = 0; tries < 8 && listings.size[which] > SMALL_LISTING; tries++)
+        which = draw_below(chance, listings.count);
+    memcpy(draft, listings.octets[which], listings.size[which]);
+    size_t size = damage(chance, draft, listings.size[which], sizeof draft);
+    struct lent listing = lend(chance, walls.listing, size);
+    if (size > 0) {
+        memcpy(listing.octets, draft, size);
+        memcpy(original, draft, size);
+    }
+    return listing;
+}
+
+static size_t draw_work_size(struct chance *chance)
+{
+    switch (draw_below(chance, 16)) {
+    case 0: return draw_below(chance, 64) == 0 ? DESTERLIN_WORK_FULL : 0;
+    case 1: return 32768;
+    default: return draw_below(chance, 2000);
+    }
+}
+
+static size_t draw_answer_size(struct chance *chance, size_t whole)
+{
+    return draw_below(chance, 8) == 0 ? draw_below(chance, whole) : whole + draw_below(chance, ANSWER_ROOM - whole + 1);
+}
+
+static int is_listing_kept(struct lent listing)
+{
+    return (listing.size == 0 || memcmp(listing.octets, original, listing.size) == 0) && keeps(listing, listing.size);
+}
+
+/* What holds for number and place in every answer. */
+static void check_place(struct lent answer, size_t at, uint32_t most_reason)
+{
+    uint32_t number = desterlin_word(answer.octets, at);
+    uint32_t table = desterlin_word(answer.octets, at + 1), row = desterlin_word(answer.octets, at + 2);
+    check(number <= most_reason, "no reason above the call's own");
+    check(number >= DESTERLIN_REFUSED_COUNT && number <= DESTERLIN_REFUSED_FLAG ? table >= 1 && table <= 7
+                                                                                : table == 0 && row == 0,
+          "a place for reasons 5 to 8 alone");
+}
+
+/* A report; the answer, if there is one, is left in `words`. Returns whether there is one. */
+static int try_report(struct chance *chance, struct lent listing, struct lent findings, size_t work_size,
+                      uint32_t words[5])
+{
+    struct lent work = lend(chance, walls.work, work_size);
+    struct lent answer = lend(chance, walls.answer, draw_answer_size(chance, DESTERLIN_REPORT_ANSWER));
+    uint32_t returned = desterlin_report(listing.octets, listing.size, findings.octets, findings.size,
+                                         work.octets, work.size, answer.octets, answer.size);
+    check(is_listing_kept(listing), "report: the listing is never written");
+    check(returned == (answer.size >= DESTERLIN_REPORT_ANSWER), "report: 1, or 0 for too short an answer buffer");
+    if (returned == 0) {
+        check(keeps(answer, 0) && keeps(findings, 0) && keeps(work, 0), "report: with 0 nothing is written");
+        return 0;
+    }
+    check(keeps(answer, DESTERLIN_REPORT_ANSWER), "report: octets past the answer keep their values");
+    check_place(answer, DESTERLIN_REPORT_NUMBER, DESTERLIN_REFUSED_FLAG);
+    for (size_t i = 0; i < 5; i++)
+        words[i] = desterlin_word(answer.octets, i);
+    uint32_t total = words[DESTERLIN_REPORT_TOTAL], written = words[DESTERLIN_REPORT_WRITTEN];
+    size_t room = findings.size / DESTERLIN_FINDING;
+    check(written == (total < room ? total : room), "report: written is the smaller of the total and the room");
+    check(keeps(findings, (size_t)written * DESTERLIN_FINDING),
+          "report: findings past those written keep their values");
+    check(keeps(work, words[DESTERLIN_REPORT_NUMBER] == DESTERLIN_ACCEPTED ? work.size : 0),
+          "report: work stays as it was if refused, and its surroundings always");
+    check(words[DESTERLIN_REPORT_NUMBER] == DESTERLIN_ACCEPTED || total == 0, "report: no findings if refused");
+    return 1;
+}
+
+static int is_code(uint32_t code)
+{
+    for (size_t i = 0; i < sizeof codes / sizeof codes[0]; i++)
+        if (codes[i] == code)
+            return 1;
+    return 0;
+}
+
+static void check_findings(const uint8_t *findings, uint32_t written)
+{
+    struct desterlin_finding before = { 0, 0, 0 };
+    for (uint32_t i = 0; i < written; i++) {
+        struct desterlin_finding finding = desterlin_finding_at(findings, i);
+        check(is_code(finding.code), "report: a finding has one of the 36 codes");
+        check(finding.code > before.code || (finding.code == before.code && finding.row > before.row),
+              "report: findings are in order, each once");
+        before = finding;
+    }
+}
+
+static void check_verdict(struct chance *chance, struct lent listing, const uint8_t *findings, const uint32_t report[5])
+{
+    size_t which = draw_below(chance, DESTERLIN_CODE_COUNT + 5);
+    uint32_t code = which < DESTERLIN_CODE_COUNT ? codes[which] : (uint32_t)draw(chance);
+    struct lent work = lend(chance, walls.work, draw_work_size(chance));
+    struct lent answer = lend(chance, walls.answer, draw_answer_size(chance, DESTERLIN_VERDICT_ANSWER));
+    uint32_t returned = desterlin_verdict(listing.octets, listing.size, code, work.octets, work.size,
+                                          answer.octets, answer.size);
+    check(is_listing_kept(listing), "verdict: the listing is never written");
+    check(returned == (answer.size >= DESTERLIN_VERDICT_ANSWER), "verdict: 1, or 0 for too short an answer buffer");
+    if (returned == 0) {
+        check(keeps(answer, 0) && keeps(work, 0), "verdict: with 0 nothing is written");
+        return;
+    }
+    check(keeps(answer, DESTERLIN_VERDICT_ANSWER), "verdict: octets past the answer keep their values");
+    check_place(answer, DESTERLIN_VERDICT_NUMBER, DESTERLIN_REFUSED_UNKNOWN_CODE);
+    uint32_t number = desterlin_word(answer.octets, DESTERLIN_VERDICT_NUMBER);
+    uint32_t ruling = desterlin_word(answer.octets, DESTERLIN_VERDICT_RULING);
+    check(keeps(work, number == DESTERLIN_ACCEPTED ? work.size : 0),
+          "verdict: work stays as it was if refused, and its surroundings always");
+    check(number == (is_code(code) ? report[DESTERLIN_REPORT_NUMBER] : (uint32_t)DESTERLIN_REFUSED_UNKNOWN_CODE),
+          "verdict: refused as the report is, or for its code");
+    check((ruling == DESTERLIN_REFUSED) == (number != DESTERLIN_ACCEPTED) && ruling <= DESTERLIN_REFUSED,
+          "verdict: refused with a reason, and only so");
+    if (number != DESTERLIN_ACCEPTED || report[DESTERLIN_REPORT_WRITTEN] < report[DESTERLIN_REPORT_TOTAL])
+        return;
+    uint32_t first = DESTERLIN_NONE, fails = 0;
+    for (uint32_t i = report[DESTERLIN_REPORT_WRITTEN]; i > 0; i--) {
+        struct desterlin_finding finding = desterlin_finding_at(findings, i - 1);
+        if (finding.code == code) {
+            first = finding.row;
+            fails = 1;
+        }
+    }
+    check((ruling == DESTERLIN_FAIL) == (fails == 1) && desterlin_word(answer.octets, DESTERLIN_VERDICT_FOUND) == first,
+          "verdict: fails with the first row that the report has for the code");
+}
+
+static uint64_t long_at(const uint8_t *octets)
+{
+    return (uint64_t)desterlin_word(octets, 0) | (uint64_t)desterlin_word(octets, 1) << 32;
+}
+
+/* The address of a tile row, or any numbers. */
+static void draw_address(struct chance *chance, struct lent listing, int is_accepted, int64_t address[3])
+{
+    for (size_t i = 0; i < 3; i++)
+        address[i] = draw_below(chance, 8) == 0 ? (int64_t)draw(chance) : (int64_t)draw_below(chance, 4);
+    uint32_t tiles = is_accepted ? desterlin_word(listing.octets, 10) : 0;
+    if (tiles == 0 || draw_below(chance, 4) == 0)
+        return;
+    const uint8_t *row = listing.octets + desterlin_word(listing.octets, 11) + 32 * draw_below(chance, tiles);
+    for (size_t i = 0; i < 3; i++)
+        address[i] = (int64_t)long_at(row + 8 + 8 * i);
+}
+
+static void check_lookup(struct chance *chance, struct lent listing, const uint32_t report[5])
+{
+    int is_accepted = report[DESTERLIN_REPORT_NUMBER] == DESTERLIN_ACCEPTED;
+    uint32_t contents_row = draw_below(chance, 16) == 0 ? (uint32_t)draw(chance) : (uint32_t)draw_below(chance, 3);
+    int64_t address[3];
+    draw_address(chance, listing, is_accepted, address);
+    struct lent answer = lend(chance, walls.answer, draw_answer_size(chance, DESTERLIN_LOOKUP_ANSWER));
+    uint32_t returned = desterlin_lookup(listing.octets, listing.size, contents_row, address[0], address[1], address[2],
+                                         answer.octets, answer.size);
+    check(is_listing_kept(listing), "lookup: the listing is never written");
+    check(returned == (answer.size >= DESTERLIN_LOOKUP_ANSWER), "lookup: 1, or 0 for too short an answer buffer");
+    if (returned == 0) {
+        check(keeps(answer, 0), "lookup: with 0 nothing is written");
+        return;
+    }
+    check(keeps(answer, DESTERLIN_LOOKUP_ANSWER), "lookup: octets past the answer keep their values");
+    check_place(answer, DESTERLIN_LOOKUP_NUMBER, DESTERLIN_REFUSED_NO_TILES);
+    uint32_t number = desterlin_word(answer.octets, DESTERLIN_LOOKUP_NUMBER);
+    uint32_t tile = desterlin_word(answer.octets, DESTERLIN_LOOKUP_TILE);
+    check(is_accepted ? number == DESTERLIN_ACCEPTED || number == DESTERLIN_REFUSED_NO_TILES
+                      : number == report[DESTERLIN_REPORT_NUMBER],
+          "lookup: refused as the report is, or for its contents row");
+    check(number == DESTERLIN_ACCEPTED || tile == DESTERLIN_NONE, "lookup: no tile if refused");
+    if (tile == DESTERLIN_NONE)
+        return;
+    check(tile < desterlin_word(listing.octets, 10), "lookup: a tile row that is there");
+    const uint8_t *row = listing.octets + desterlin_word(listing.octets, 11) + 32 * (size_t)tile;
+    for (size_t i = 0; i < 3; i++)
+        check((int64_t)long_at(row + 8 + 8 * i) == address[i], "lookup: a tile row with the address");
+    tally.tiles_found++;
+}
+
+static void try_input(uint64_t number)
+{
+    struct chance chance = { number };
+    input_number = number;
+    struct lent listing = lend_input(&chance);
+
+    /* Once with whatever room there is, once with room for all: what both have must be the same. */
+    static uint8_t few[FINDINGS_ROOM];
+    uint32_t short_report[5] = { 0 }, report[5] = { 0 };
+    struct lent findings = lend(&chance, walls.findings, draw_below(&chance, 200));
+    while (!try_report(&chance, listing, findings, draw_work_size(&chance), short_report))
+        continue;
+    size_t few_size = (size_t)short_report[DESTERLIN_REPORT_WRITTEN] * DESTERLIN_FINDING;
+    if (few_size > 0)
+        memcpy(few, findings.octets, few_size);
+    size_t whole_size = (size_t)short_report[DESTERLIN_REPORT_TOTAL] * DESTERLIN_FINDING + draw_below(&chance, 20);
+    findings = lend(&chance, walls.findings, whole_size < FINDINGS_ROOM ? whole_size : FINDINGS_ROOM);
+    while (!try_report(&chance, listing, findings, draw_work_size(&chance), report))
+        continue;
+    check_findings(findings.octets, report[DESTERLIN_REPORT_WRITTEN]);
+    check(memcmp(report, short_report, 4 * sizeof report[0]) == 0,
+          "report: sizes do not change number, place and total");
+    check(few_size == 0 || memcmp(few, findings.octets, few_size) == 0,
+          "report: a short buffer has the first findings");
+    check_verdict(&chance, listing, findings.octets, report);
+    check_lookup(&chance, listing, report);
+
+    tally.reasons[report[DESTERLIN_REPORT_NUMBER]]++;
+    if (report[DESTERLIN_REPORT_NUMBER] == DESTERLIN_ACCEPTED)
+        ++*(report[DESTERLIN_REPORT_TOTAL] == 0 ? &tally.without_findings : &tally.with_findings);
+}
+
+static uint8_t *make_wall(size_t most)
+{
+    return (uint8_t *)walled(SENTINELS + most) + SENTINELS + most;
+}
+
+static void read_listing(const char *path)
+{
+    FILE *file = fopen(path, "rb");
+    uint8_t *octets = malloc(LISTING_ROOM);
+    if (file == NULL || octets == NULL || listings.count == MOST_LISTINGS) {
+        fprintf(stderr, "fuzz: %s cannot be read, or is one too many\n", path);
+        exit(2);
+    }
+    listings.octets[listings.count] = octets;
+    listings.size[listings.count++] = fread(octets, 1, LISTING_ROOM, file);
+    fclose(file);
+}
+
+static void print_tally(unsigned long count)
+{
+    printf("fuzz: %lu inputs, every promise kept; accepted %lu (with findings %lu, without %lu), refused", count,
+           tally.reasons[0], tally.with_findings, tally.without_findings);
+    for (size_t i = 1; i <= DESTERLIN_REFUSED_FLAG; i++)
+        printf(" %zu: %lu", i, tally.reasons[i]);
+    printf("; lookups that found a tile %lu\n", tally.tiles_found);
+}
+
+int main(int count, char **words)
+{
+    char *end_of_inputs = NULL, *end_of_seed = NULL;
+    unsigned long inputs = count > 3 ? strtoul(words[1], &end_of_inputs, 10) : 0;
+    uint64_t seed = count > 3 ? strtoull(words[2], &end_of_seed, 10) : 0;
+    if (count < 4 || *words[1] == '\0' || *end_of_inputs != '\0' || *words[2] == '\0' || *end_of_seed != '\0') {
+        fprintf(stderr, "usage: fuzz COUNT SEED LISTING ..\n");
+        return 2;
+    }
+    for (int i = 3; i < count; i++)
+        read_listing(words[i]);
+    for (size_t i = 0; i < sizeof filling; i++)
+        filling[i] = (uint8_t)(37 * i);
+    walls.listing = make_wall(LISTING_ROOM);
+    walls.findings = make_wall(FINDINGS_ROOM);
+    walls.work = make_wall(DESTERLIN_WORK_FULL);
+    walls.answer = make_wall(ANSWER_ROOM);
+    signal(SIGSEGV, tell_input);
+    signal(SIGBUS, tell_input);
+    signal(SIGILL, tell_input);
+    signal(SIGTRAP, tell_input);
+    for (unsigned long i = 0; i < inputs; i++)
+        try_input(seed + i);
+    print_tally(inputs);
+    for (size_t i = 0; i < listings.count; i++)
+        free(listings.octets[i]);
+    return 0;
+}

@@ -1,0 +1,101 @@
+/*
+ * How much stack the three calls take: each runs in a thread whose stack was painted before, and the paint that is gone
+ * is counted. What the thread takes for itself is counted with it.
+ *
+ *     stack LISTING ..
+ *
+ * Exit status: 0 no call takes more than the 64 KiB of the promise; 1 one does; 2 it could not be measured.
+ */
+#define _DEFAULT_SOURCE /* pthread_attr_setstack */
+#include <pthread.h>
+#include <stdint.h>
+#include <stdio.h>
+#include <stdlib.h>
+#include <string.h>
+
+#include "desterlin.h"
+#include "walled.h"
+
+enum { STACK = 1 << 20, PAINT = 0x5c, PROMISED = 65536 };
+
+static uint8_t listing[DESTERLIN_LISTING_MOST];
+static uint8_t findings[1 << 20];
+static uint8_t work[DESTERLIN_WORK_FULL];
+static size_t listing_size;
+
+static void *report(void *unused)
+{
+    uint8_t answer[DESTERLIN_REPORT_ANSWER];
+    desterlin_report(listing, listing_size, findings, sizeof findings, work, sizeof work, answer, sizeof answer);
+    desterlin_report(listing, listing_size, findings, sizeof findings, NULL, 0, answer, sizeof answer);
+    return unused;
+}
+
+static void *verdict(void *unused)
+{
+    uint8_t answer[DESTERLIN_VERDICT_ANSWER];
+#define VERDICT(code, table, words) \
+    desterlin_verdict(listing, listing_size, code, work, sizeof work, answer, sizeof answer);
+    DESTERLIN_CODES(VERDICT)
+#undef VERDICT
+    return unused;
+}
+
+static void *lookup(void *unused)
+{
+    uint8_t answer[DESTERLIN_LOOKUP_ANSWER];
+    desterlin_lookup(listing, listing_size, 0, 0, 0, 0, answer, sizeof answer);
+    return unused;
+}
+
+static void failed(const char *what)
+{
+    fprintf(stderr, "stack: %s\n", what);
+    exit(2);
+}
+
+/* The octets of stack that a thread touches. */
+static size_t touched(void *(*body)(void *))
+{
+    static uint8_t *stack;
+    pthread_attr_t attributes;
+    pthread_t thread;
+    if (stack == NULL)
+        stack = walled(STACK);
+    memset(stack, PAINT, STACK);
+    if (pthread_attr_init(&attributes) != 0 || pthread_attr_setstack(&attributes, stack, STACK) != 0
+        || pthread_create(&thread, &attributes, body, NULL) != 0 || pthread_join(thread, NULL) != 0)
+        failed("no thread");
+    pthread_attr_destroy(&attributes);
+    size_t untouched = 0;
+    while (untouched < STACK && stack[untouched] == PAINT)
+        untouched++;
+    return STACK - untouched;
+}
+
+static void read_listing(const char *path)
+{
+    FILE *file = fopen(path, "rb");
+    if (file == NULL)
+        failed(path);
+    listing_size = fread(listing, 1, sizeof listing, file);
+    fclose(file);
+}
+
+int main(int count, char **words)
+{
+    static const struct {
+        const char *name;
+        void *(*body)(void *);
+    } calls[] = { { "report", report }, { "verdict", verdict }, { "lookup", lookup } };
+    size_t most = 0;
+    for (int i = 1; i < count; i++) {
+        read_listing(words[i]);
+        for (size_t k = 0; k < sizeof calls / sizeof calls[0]; k++) {
+            size_t taken = touched(calls[k].body);
+            most = taken > most ? taken : most;
+            printf("stack: %s of %s takes at most %zu octets\n", calls[k].name, words[i], taken);
+        }
+    }
+    return most > PROMISED;
+}

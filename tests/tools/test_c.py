@@ -1,0 +1,172 @@
+"""The C side: the header, the example as it stands, and the example and the calls under walls and sanitizers."""
+
+from __future__ import annotations
+
+import os
+import re
+import shutil
+import subprocess
+import unittest
+from pathlib import Path
+from typing import List
+
+from packs import ROOT, SECOND, InRoom, Ran, judged_by_second, needs_library
+
+from desterlin import judge
+
+TESTS = ROOT / "tests" / "tools"
+SAMPLES = ROOT / "samples"
+BUILT = ROOT / "target" / "tests" / "tools"
+TWICE = b'#include "desterlin.h"\n#include "desterlin.h"\nint main(void) { return 0; }\n'
+MADE_SCREEN = """\
+report: 1 finding
+  541 row 5, partner row 3: two tiles at one address
+verdict on 541 (two tiles at one address): fail, first at row 5
+screen: contents row 0, zoom 1, columns 0 to 1
+  row 0: 1 2
+  row 1: 3 4
+"""
+
+
+class Header(unittest.TestCase):
+    STRICT = ["-pedantic", "-Wall", "-Wextra", "-Werror", "-fsyntax-only", f"-I{ROOT / 'include'}"]
+
+    def test_c99(self) -> None:
+        ran = Ran(["cc", "-std=c99", *self.STRICT, "-Wstrict-prototypes", "-Wconversion", "-x", "c", "-"], TWICE)
+        self.assertEqual((ran.status, ran.err), (0, ""))
+
+    def test_cpp(self) -> None:
+        if shutil.which("c++") is None:
+            self.skipTest("this machine has no C++ compiler")
+        ran = Ran(["c++", "-std=c++11", *self.STRICT, "-Wconversion", "-x", "c++", "-"], TWICE)
+        self.assertEqual((ran.status, ran.err), (0, ""))
+
+    def test_every_name_has_the_prefix(self) -> None:
+        """What the header defines beyond the two headers that it includes."""
+        bare = b"#include <stddef.h>\n#include <stdint.h>\n"
+        names = self.macros(b'#include "desterlin.h"\n') - self.macros(bare)
+        self.assertTrue(names)
+        self.assertEqual({name for name in names if not name.startswith("DESTERLIN_")}, set())
+        text = (ROOT / "include" / "desterlin.h").read_text(encoding="utf-8")
+        code = re.sub(r"/\*.*?\*/", "", text, flags=re.S)
+        declared = re.findall(r"^(?:static inline )?(?:uint32_t|struct \w+) (\w+)\(", code, re.M)
+        declared += re.findall(r"^(?:enum|struct) (\w+)", code, re.M)
+        declared += re.findall(r"^    (\w+) = \d+,?\s*$", code, re.M)
+        self.assertGreater(len(declared), 40)
+        self.assertEqual({name for name in declared if not name.lower().startswith("desterlin_")}, set())
+
+    def macros(self, source: bytes) -> "set[str]":
+        ran = Ran(["cc", "-std=c99", "-dM", "-E", f"-I{ROOT / 'include'}", "-x", "c", "-"], source)
+        return {line.split()[1].split("(")[0] for line in ran.out.splitlines()}
+
+
+class Makefile(InRoom):
+    def make(self, *words: str) -> "subprocess.CompletedProcess[str]":
+        env = {name: value for name, value in os.environ.items() if name not in ("CC", "MAKEFLAGS", "MAKELEVEL")}
+        command = ["make", "-s", "-C", str(ROOT / "examples"), *words]
+        return subprocess.run(command, env=env, capture_output=True, text=True, check=False)
+
+    def test_says_what_to_do_without_the_library(self) -> None:
+        ran = self.make(f"LIBRARY={self.room}/none.a", f"BUILT={self.room}")
+        self.assertEqual((ran.returncode, ran.stdout), (2, ""))
+        self.assertIn("The proved library is not built yet.", ran.stderr)
+        self.assertIn("rt staticlib desterlin", ran.stderr)
+
+    @needs_library
+    def test_builds_and_runs_the_viewer(self) -> None:
+        named = {"LIBRARY": os.environ.get("DESTERLIN_LIBRARY"), "CC": os.environ.get("DESTERLIN_CC")}
+        ran = self.make(f"BUILT={self.room}", *(f"{name}={value}" for name, value in named.items() if value))
+        self.assertEqual((ran.returncode, ran.stdout, ran.stderr), (0, MADE_SCREEN, ""))
+
+
+@needs_library
+class Viewer(unittest.TestCase):
+    """The example under the sanitizers; all memory that it allocates ends at a wall."""
+
+    program = BUILT / "viewer"
+
+    @classmethod
+    def setUpClass(cls) -> None:
+        # Memory behind walls is not searched for leaks, and on some machines the search takes seconds.
+        os.environ["ASAN_OPTIONS"] = "detect_leaks=0"
+        BUILT.mkdir(parents=True, exist_ok=True)
+        walls = ["-Dmalloc=walled_malloc", "-Dfree=walled_free", "-include", TESTS / "walled.h"]
+        sources = [ROOT / "examples" / "viewer.c", TESTS / "walled.c"]
+        ran = Ran([TESTS / "cc-sanitized", *walls, *sources, judge.library(), "-o", cls.program])
+        if ran.status != 0:
+            raise AssertionError(ran.err)
+
+    def test_samples(self) -> None:
+        for listing in sorted(SAMPLES.glob("*.listing")):
+            with self.subTest(listing.name):
+                lines = judged_by_second(listing.read_bytes()).splitlines()
+                ran = Ran([self.program, listing])
+                self.assertEqual(ran.err, "")
+                if lines[0].startswith("refused"):
+                    number, table, row = lines[0].split()[1:]
+                    self.assertEqual(ran.status, 2)
+                    self.assertTrue(ran.out.startswith(f"report refused: reason {number}, table {table}, row {row}: "))
+                else:
+                    self.assertEqual(ran.status, 1 if len(lines) > 1 else 0)
+                    self.assertEqual(self.findings(ran.out), lines[:-1])
+                    self.assertIn(f": {self.verdict(listing)}\n", ran.out)
+
+    def findings(self, printed: str) -> List[str]:
+        pattern = r"^  (\d{3}) (no row|row \d+)(?:, partner row (\d+))?: "
+        found = re.findall(pattern, printed, re.M)
+        rows = [row.replace("no row", "-").replace("row ", "") for _, row, _ in found]
+        return [f"finding {code} {row} {partner or '-'}" for (code, _, partner), row in zip(found, rows)]
+
+    def verdict(self, listing: Path) -> str:
+        words = Ran([SECOND, "verdict", 541], listing.read_bytes()).out.strip()
+        return re.sub(r"^fail (\d+)$", r"fail, first at row \1", words)
+
+    def test_screens(self) -> None:
+        listing = SAMPLES / "doubled-address.listing"
+        for zoom in [0, 1, 2]:
+            ran = Ran([self.program, listing, 0, zoom, -1, 2, -1, 2])
+            self.assertEqual((ran.status, ran.err), (1, ""))
+            drawn = re.findall(r"^  row (-?\d+): (.*)$", ran.out.split("screen:")[1], re.M)
+            for row, tiles in drawn:
+                asked = [[SECOND, "lookup", 0, zoom, column, row] for column in range(-1, 3)]
+                answers = [Ran(command, listing.read_bytes()).out for command in asked]
+                self.assertEqual([f"tile {tile}\n" for tile in tiles.split()], answers)
+            self.assertEqual([row for row, _ in drawn], ["-1", "0", "1", "2"])
+
+    def test_refused_lookup(self) -> None:
+        ran = Ran([self.program, SAMPLES / "good-pack.listing", 1, 0, 0, 0, 0, 0])
+        self.assertEqual((ran.status, ran.err), (0, ""))
+        self.assertIn("lookup refused: reason 10, table 0, row 0: ", ran.out)
+
+    def test_wrong_words(self) -> None:
+        wrong: "List[List[object]]" = [[], ["a", "b"], [SAMPLES / "good-pack.listing", 0, 0, 5, 4, 0, 0], ["/nowhere"]]
+        for words in wrong:
+            self.assertEqual(Ran([self.program, *words]).status, 2)
+
+    def test_no_octets_and_too_many(self) -> None:
+        ran = Ran([self.program, "/dev/null"])
+        self.assertIn("reason 1,", ran.out)
+        long = BUILT / "long.listing"
+        long.write_bytes(bytes(9_762_881))
+        self.assertIn("reason 2,", Ran([self.program, long]).out)
+        long.unlink()
+
+
+@needs_library
+class Stack(unittest.TestCase):
+    def test_no_call_takes_more_than_is_promised(self) -> None:
+        BUILT.mkdir(parents=True, exist_ok=True)
+        compiler = os.environ.get("DESTERLIN_CC") or ROOT / "tools" / "cc-x86-64"
+        flags = ["-std=c99", "-pedantic", "-Wall", "-Wextra", "-Werror", "-O1", "-pthread"]
+        sources = [TESTS / "stack.c", TESTS / "walled.c"]
+        ran = Ran([compiler, *flags, "-Iinclude", "-Itests/tools", *sources, judge.library(), "-o", BUILT / "stack"])
+        self.assertEqual((ran.status, ran.err), (0, ""))
+        large = BUILT / "large.listing"
+        large.write_bytes(Ran([SECOND, "full", "pyramids", 1_000]).octets)
+        ran = Ran([BUILT / "stack", SAMPLES / "many-kinds.listing", large])
+        large.unlink()
+        self.assertEqual((ran.status, ran.err), (0, ""), ran.out)
+
+
+if __name__ == "__main__":
+    unittest.main()

@@ -1,0 +1,168 @@
+"""gpkg-check and the judge: the proved library from end to end."""
+
+from __future__ import annotations
+
+import json
+import os
+import pty
+import subprocess
+import unittest
+import xml.dom.minidom
+from pathlib import Path
+
+from packs import (
+    DATE, PACKS, ROOT, SECOND, TOOLS, Called, InRoom, Ran, good, judged_by_second, loaded, make_pack, needs_library,
+)
+from test_listing import CONTENTS, FARM, PLANTED, planted
+
+from desterlin import judge
+
+GPKG_CHECK = loaded("gpkg-check")
+SAMPLES = ROOT / "samples"
+
+
+@needs_library
+class Packs(InRoom):
+    def test_samples_print_what_stands_beside_them(self) -> None:
+        for name, status in {"valley": 1, "meadow": 0}.items():
+            with self.subTest(name):
+                ran = Ran(["tools/gpkg-check", f"samples/packs/{name}.gpkg"])
+                self.assertEqual((ran.status, ran.err), (status, ""))
+                self.assertEqual(ran.out, (PACKS / f"{name}.printed").read_text(encoding="utf-8"))
+
+    def test_planted_faults(self) -> None:
+        for number in range(0, len(PLANTED), 4):
+            name, changes, expected = PLANTED[number]
+            with self.subTest(name):
+                pack = make_pack(self.room / f"{number}.gpkg", planted(changes))
+                called = Called(GPKG_CHECK, "--json", pack)
+                self.assertEqual(called.status, 1 if expected else 0)
+                findings = json.loads(called.out)["findings"]
+                found = [f"{finding['code']} {dash(finding['row'])} {dash(finding['partner'])}" for finding in findings]
+                self.assertEqual(found, expected)
+
+    def test_rows_are_found_again_in_the_pack(self) -> None:
+        rows = planted([(CONTENTS, None, ("hill", "tiles", DATE, 4326))])
+        rows[FARM], rows["hill"] = [(0, 0, 0)], [(0, 0, 0)]
+        pack = self.pack(rows, "INSERT INTO farm (rowid, zoom_level, tile_column, tile_row) VALUES (77, 0, 0, 0)")
+        said = Called(GPKG_CHECK, pack).out
+        self.assertIn('tiles row 1 (table "farm" rowid 77), partner row 0 (table "farm" rowid 1)', said)
+        self.assertIn('tiles row 2 (table "hill" rowid 1): zoom 0, column 0, row 0: "hill" has no matrix', said)
+
+    def test_what_a_name_holds_does_not_reach_the_terminal(self) -> None:
+        pack = self.pack(planted([(CONTENTS, None, ("\x1b[31mred", "tiles", "\x07", 4326))]))
+        called = Called(GPKG_CHECK, pack)
+        self.assertEqual(called.status, 1)
+        self.assertNotRegex(called.out + called.err, "[\x07\x1b]")
+        self.assertIn('"\\x1b[31mred"', called.out)
+
+    def test_trouble(self) -> None:
+        pack = self.pack(planted([(FARM, 0, ("zero", 0, 0))]))
+        called = Called(GPKG_CHECK, pack, "--svg", self.room / "out.svg")
+        self.assertEqual((called.status, called.out), (2, ""))
+        self.assertIn('column zoom_level: the text "zero" stands', called.err)
+        called = Called(GPKG_CHECK, pack, "--json")
+        self.assertEqual((called.status, json.loads(called.out)["status"]), (2, 2))
+        self.assertEqual([path.name for path in self.room.iterdir()], ["pack.gpkg"])
+
+    def test_both_rows_are_in_the_json(self) -> None:
+        finding = json.loads(Called(GPKG_CHECK, PACKS / "valley.gpkg", "--json").out)["findings"][0]
+        self.assertEqual((finding["code"], finding["requirement"], finding["table"]), (541, "C.7, Table 10", "tiles"))
+        columns = {"table_name": "valley", "zoom_level": 2, "tile_column": 1, "tile_row": 2}
+        for key, row in {"found_at": 16, "partner_at": 4}.items():
+            at = {"table": "tiles", "row": row, "origin": f'view "valley" row {row}', "columns": columns}
+            self.assertEqual(finding[key], at)
+
+    def test_the_pack_is_not_drawn_over(self) -> None:
+        pack = self.pack(good())
+        before = self.files()
+        called = Called(GPKG_CHECK, pack, "--svg", pack)
+        self.assertEqual((called.status, called.out, self.files()), (2, "", before))
+        self.assertIn("this is the file that was read; it would be lost", called.err)
+
+    def test_picture(self) -> None:
+        drawn = self.room / "valley.svg"
+        self.assertEqual(Called(GPKG_CHECK, PACKS / "valley.gpkg", "--svg", drawn).status, 1)
+        xml.dom.minidom.parse(str(drawn))
+        self.assertIn("column 1, row 2: doubled", drawn.read_text(encoding="utf-8"))
+
+    def test_progress_on_a_terminal_alone(self) -> None:
+        ours, theirs = pty.openpty()
+        command = [str(TOOLS / "gpkg-check"), str(PACKS / "meadow.gpkg")]
+        ran = subprocess.run(command, stdout=subprocess.PIPE, stderr=theirs, check=False)
+        os.close(theirs)
+        said = os.read(ours, 100_000).decode("utf-8")
+        os.close(ours)
+        self.assertEqual(ran.returncode, 0)
+        self.assertIn("\rreading gpkg_contents", said)
+        self.assertIn("\rjudging 1,997 octets", said)
+        self.assertRegex(said, " \r$")
+        self.assertNotIn(b"\r", ran.stdout)
+
+
+def dash(row: object) -> str:
+    return "-" if row is None else str(row)
+
+
+@needs_library
+class Listings(InRoom):
+    def test_samples(self) -> None:
+        for listing in sorted(SAMPLES.glob("*.listing")):
+            with self.subTest(listing.name):
+                lines = judged_by_second(listing.read_bytes()).splitlines()
+                called = Called(GPKG_CHECK, "--listing", listing, "--json")
+                told = json.loads(called.out)
+                if lines[-1].startswith("refused"):
+                    number = lines[-1].split()[1]
+                    self.assertEqual(called.status, 2)
+                    self.assertIn(f"the listing is refused, reason {number}:", told["trouble"])
+                else:
+                    self.assertEqual(told["total"], len(lines) - 1)
+                    self.assertEqual(called.status, 1 if told["total"] else 0)
+                    self.assertEqual(sum(line["count"] for line in told["summary"]), told["total"])
+
+    def test_a_reader_who_has_seen_enough(self) -> None:
+        ran = Ran(["sh", "-c", "tools/gpkg-check --listing samples/many-findings.listing | head -n 1"])
+        self.assertEqual((ran.err, ran.out.count("\n")), ("", 1))
+
+    def test_not_there(self) -> None:
+        called = Called(GPKG_CHECK, "--listing", self.room / "none")
+        self.assertEqual((called.status, called.out), (2, ""))
+        self.assertIn("cannot be read: No such file or directory", called.err)
+
+
+@needs_library
+class Judge(InRoom):
+    """tools/judge.c prints what the second program does."""
+
+    def same(self, listing: bytes) -> None:
+        ran = Ran([judge.program()], listing)
+        self.assertEqual((ran.status, ran.err), (0, ""))
+        self.assertEqual(ran.out, judged_by_second(listing))
+
+    def test_samples(self) -> None:
+        for path in sorted(SAMPLES.glob("*.listing")):
+            with self.subTest(path.name):
+                self.same(path.read_bytes())
+
+    def test_more_octets_than_the_desk_program_reads(self) -> None:
+        self.same(Ran([SECOND, "full", "pyramids", 4_000]).octets)
+
+    def test_no_octets_and_too_many(self) -> None:
+        self.same(b"")
+        self.same(bytes(9_762_881))
+        self.same(bytes(20_000_000))
+
+
+class NoLibrary(unittest.TestCase):
+    def test_how_to_build_it_is_told(self) -> None:
+        env = {**os.environ, "DESTERLIN_LIBRARY": "/nowhere/libdesterlin.a"}
+        command = [str(TOOLS / "gpkg-check"), str(PACKS / "valley.gpkg")]
+        ran = subprocess.run(command, env=env, capture_output=True, check=False)
+        self.assertEqual((ran.returncode, ran.stdout), (2, b""))
+        self.assertIn(b"the proved library is not built", ran.stderr)
+        self.assertIn(b"rt staticlib desterlin", ran.stderr)
+
+
+if __name__ == "__main__":
+    unittest.main()

@@ -1,0 +1,32 @@
+#define _DEFAULT_SOURCE /* MAP_ANONYMOUS */
+#include "walled.h"
+
+#include <stdint.h>
+#include <stdio.h>
+#include <stdlib.h>
+#include <sys/mman.h>
+
+/* The largest page of the machines that the tests run on, which may lie below an emulator. */
+#define PAGE ((size_t)65536)
+
+void *walled(size_t size)
+{
+    size_t room = (size + PAGE - 1) / PAGE * PAGE;
+    uint8_t *start = mmap(NULL, room + PAGE, PROT_READ | PROT_WRITE, MAP_PRIVATE | MAP_ANONYMOUS, -1, 0);
+    if (start == MAP_FAILED || mprotect(start + room, PAGE, PROT_NONE) != 0) {
+        perror("walled");
+        exit(2);
+    }
+    return start + room - size;
+}
+
+void *walled_malloc(size_t size)
+{
+    return walled(size);
+}
+
+/* What is freed stays mapped: the program ends soon, and a late touch of it is no matter of the wall. */
+void walled_free(void *memory)
+{
+    (void)memory;
+}

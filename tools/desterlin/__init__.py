@@ -1,0 +1,1 @@
+"""The parts that gpkg-listing and gpkg-check share."""

@@ -1,0 +1,219 @@
+"""A listing as docs/LISTING.md lays it down: octets made from rows, and rows read back from octets."""
+
+from __future__ import annotations
+
+import enum
+import struct
+from typing import Dict, Iterator, List, NamedTuple, Optional, Sequence, Tuple, Union
+
+VERSION = 1
+HEADER_OCTETS = 64
+LISTING_MOST = 9_762_880
+NAMES_MOST = 1_048_576
+NULL = (4_294_967_295, 0)
+
+Value = Union[bytes, int, float, None]
+
+
+class Kind(enum.Enum):
+    """What a field holds; the values are the words in which people are told so."""
+
+    TEXT = "a text"
+    TEXT_OR_NULL = "a text or NULL"
+    WHOLE = "a whole number"
+    WHOLE_OR_NULL = "a whole number or NULL"
+    DOUBLE = "a number"
+
+
+# The octets of each kind, in struct's letters. A whole number that may be NULL has its flag and spare beside it.
+FORMS = {Kind.TEXT: "II", Kind.TEXT_OR_NULL: "II", Kind.WHOLE: "q", Kind.WHOLE_OR_NULL: "qII", Kind.DOUBLE: "d"}
+
+
+class Field(NamedTuple):
+    name: str
+    kind: Kind
+
+
+class Reference(NamedTuple):
+    srs_id: int
+    organization_coordsys_id: int
+    organization: bytes
+    definition: bytes
+
+
+class Content(NamedTuple):
+    table_name: bytes
+    data_type: bytes
+    last_change: bytes
+    srs_id: Optional[int]
+
+
+class MatrixSet(NamedTuple):
+    table_name: bytes
+    srs_id: int
+    min_x: float
+    min_y: float
+    max_x: float
+    max_y: float
+
+
+class Matrix(NamedTuple):
+    table_name: bytes
+    zoom_level: int
+    matrix_width: int
+    matrix_height: int
+    tile_width: int
+    tile_height: int
+    pixel_x_size: float
+    pixel_y_size: float
+
+
+class Tile(NamedTuple):
+    table_name: bytes
+    zoom_level: int
+    tile_column: int
+    tile_row: int
+
+
+class Extension(NamedTuple):
+    table_name: Optional[bytes]
+    column_name: Optional[bytes]
+    extension_name: bytes
+    scope: bytes
+
+
+Row = Union[Reference, Content, MatrixSet, Matrix, Tile, Extension]
+
+
+class Table:
+    """One of the tables 1 to 6: its names, its greatest count and its fields."""
+
+    def __init__(self, number: int, title: str, one: str, most: int, row: type, kinds: Sequence[Kind]) -> None:
+        self.number = number
+        self.title = title
+        self.one = one
+        self.most = most
+        self.fields = [Field(name, kind) for name, kind in zip(row.__annotations__, kinds)]
+        self.form = struct.Struct("<" + "".join(FORMS[kind] for kind in kinds))
+
+
+TEXT, WHOLE, DOUBLE = Kind.TEXT, Kind.WHOLE, Kind.DOUBLE
+REFERENCES = Table(1, "reference systems", "reference system", 256, Reference, [WHOLE, WHOLE, TEXT, TEXT])
+CONTENTS = Table(2, "contents", "contents row", 256, Content, [TEXT, TEXT, TEXT, Kind.WHOLE_OR_NULL])
+SETS = Table(3, "matrix sets", "matrix set", 256, MatrixSet, [TEXT, WHOLE] + [DOUBLE] * 4)
+MATRICES = Table(4, "matrices", "matrix", 4_096, Matrix, [TEXT] + [WHOLE] * 5 + [DOUBLE] * 2)
+TILES = Table(5, "tiles", "tile", 262_144, Tile, [TEXT] + [WHOLE] * 3)
+EXTENSIONS = Table(6, "extensions", "extension", 1_024, Extension, [Kind.TEXT_OR_NULL] * 2 + [TEXT] * 2)
+TABLES = [REFERENCES, CONTENTS, SETS, MATRICES, TILES, EXTENSIONS]
+
+
+class Overfull(Exception):
+    """More rows, or more name octets, than a listing carries."""
+
+
+class Draft:
+    """A listing in the making: rows go in, table by table, and octets come out."""
+
+    def __init__(self) -> None:
+        self.names = bytearray()
+        self.starts: Dict[bytes, int] = {}
+        self.octets = {table: bytearray() for table in TABLES}
+        self.counts = {table: 0 for table in TABLES}
+
+    def add(self, table: Table, values: Sequence[Value]) -> None:
+        """One more row; the values are of the fields' kinds."""
+        if self.counts[table] == table.most:
+            raise Overfull(f"a listing carries at most {table.most:,} rows of {table.title}")
+        words: List[Union[int, float]] = []
+        for field, value in zip(table.fields, values):
+            words.extend(self.words(field.kind, value))
+        self.octets[table] += table.form.pack(*words)
+        self.counts[table] += 1
+
+    def words(self, kind: Kind, value: Value) -> Tuple[Union[int, float], ...]:
+        if isinstance(value, bytes):
+            return self.text(value)
+        if value is None:
+            return NULL if kind is Kind.TEXT_OR_NULL else (0, 0, 0)
+        return (int(value), 1, 0) if kind is Kind.WHOLE_OR_NULL else (value,)
+
+    def text(self, octets: bytes) -> Tuple[int, int]:
+        """Start and length; octets that were named before are not stored again."""
+        if not octets:
+            return 0, 0
+        start = self.starts.get(octets)
+        if start is None:
+            start = len(self.names)
+            if start + len(octets) > NAMES_MOST:
+                raise Overfull(f"a listing carries at most {NAMES_MOST:,} octets of names and texts")
+            self.starts[bytes(octets)] = start
+            self.names += octets
+        return start, len(octets)
+
+    def listing(self) -> bytes:
+        parts = [bytes(self.octets[table]) for table in TABLES] + [bytes(self.names)]
+        counts = [self.counts[table] for table in TABLES] + [len(self.names)]
+        header = [VERSION, HEADER_OCTETS + sum(map(len, parts))]
+        offset = HEADER_OCTETS
+        for count, part in zip(counts, parts):
+            header += [count, offset]
+            offset += len(part)
+        return struct.pack("<16I", *header) + b"".join(parts)
+
+
+class Listing:
+    """The rows of a listing that the library has accepted."""
+
+    def __init__(self, octets: bytes) -> None:
+        header = struct.unpack_from("<16I", octets)
+        pairs = list(zip(header[2::2], header[3::2]))
+        self.counts = {table: pairs[table.number - 1][0] for table in TABLES}
+        self.offsets = {table: pairs[table.number - 1][1] for table in TABLES}
+        self.octets = octets
+        self.names = octets[pairs[6][1]:]
+
+    def values(self, table: Table, row: int) -> List[Value]:
+        place = self.offsets[table] + row * table.form.size
+        return self.decoded(table, table.form.unpack_from(self.octets, place))
+
+    def all_values(self, table: Table) -> Iterator[List[Value]]:
+        start = self.offsets[table]
+        part = self.octets[start:start + self.counts[table] * table.form.size]
+        return (self.decoded(table, words) for words in table.form.iter_unpack(part))
+
+    def decoded(self, table: Table, words: Sequence[Union[int, float]]) -> List[Value]:
+        values: List[Value] = []
+        at = 0
+        for field in table.fields:
+            if field.kind in (Kind.TEXT, Kind.TEXT_OR_NULL):
+                start, length = int(words[at]), int(words[at + 1])
+                values.append(None if (start, length) == NULL else self.names[start:start + length])
+                at += 2
+            elif field.kind is Kind.WHOLE_OR_NULL:
+                values.append(words[at] if words[at + 1] else None)
+                at += 3
+            else:
+                values.append(words[at])
+                at += 1
+        return values
+
+    def references(self) -> List[Reference]:
+        return [Reference(*values) for values in self.all_values(REFERENCES)]  # type: ignore[arg-type]
+
+    def contents(self) -> List[Content]:
+        return [Content(*values) for values in self.all_values(CONTENTS)]  # type: ignore[arg-type]
+
+    def sets(self) -> List[MatrixSet]:
+        return [MatrixSet(*values) for values in self.all_values(SETS)]  # type: ignore[arg-type]
+
+    def matrices(self) -> List[Matrix]:
+        return [Matrix(*values) for values in self.all_values(MATRICES)]  # type: ignore[arg-type]
+
+    def extensions(self) -> List[Extension]:
+        return [Extension(*values) for values in self.all_values(EXTENSIONS)]  # type: ignore[arg-type]
+
+    def tiles(self) -> Iterator[Tile]:
+        return (Tile(*values) for values in self.all_values(TILES))  # type: ignore[arg-type]
+
+    def tile(self, row: int) -> Tile:
+        return Tile(*self.values(TILES, row))  # type: ignore[arg-type]

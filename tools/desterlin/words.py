@@ -1,0 +1,337 @@
+"""A finding in words: the names and numbers that are wrong, for the person who has to put them right."""
+
+from __future__ import annotations
+
+import struct
+from typing import Callable, Dict, List, NamedTuple, Optional, Tuple
+
+from .console import shown
+from .listing import Listing, Matrix, MatrixSet, Tile
+from .rules import Finding
+
+# Up to here every product of whole numbers is a double.
+LARGEST_EXACT = 2**53
+
+# How many steps from one double to the next still count as near.
+NEAR_STEPS = 4
+
+
+class Known:
+    """The rows of one accepted listing, with what the words ask for again and again."""
+
+    def __init__(self, listing: Listing) -> None:
+        self.tile = listing.tile
+        self.references = listing.references()
+        self.contents = listing.contents()
+        self.sets = listing.sets()
+        self.matrices = listing.matrices()
+        self.extensions = listing.extensions()
+        self.first_set: Dict[bytes, MatrixSet] = {}
+        for row in self.sets:
+            self.first_set.setdefault(row.table_name, row)
+        self.first_matrix: Dict[Tuple[bytes, int], int] = {}
+        self.zooms: Dict[bytes, List[int]] = {}
+        for at, matrix in enumerate(self.matrices):
+            self.first_matrix.setdefault((matrix.table_name, matrix.zoom_level), at)
+            self.zooms.setdefault(matrix.table_name, []).append(matrix.zoom_level)
+
+
+class Found(NamedTuple):
+    """A finding with a row; the partner is only looked at for codes that have one."""
+
+    row: int
+    partner: int
+
+
+Words = Callable[[Known, Found], str]
+
+
+def words(known: Known, finding: Finding) -> str:
+    if finding.row is None:
+        return WITHOUT_A_ROW[finding.code](known)
+    return WITH_A_ROW[finding.code](known, Found(finding.row, -1 if finding.partner is None else finding.partner))
+
+
+# Reference systems
+
+
+def missing(srs_id: int) -> Callable[[Known], str]:
+    return lambda known: f"no row has srs_id {srs_id}"
+
+
+def repeated_srs(known: Known, found: Found) -> str:
+    return f"srs_id {known.references[found.row].srs_id} is already in row {found.partner}"
+
+
+def wrong_srs(organization: bytes, definition: Optional[bytes]) -> Words:
+    def told(known: Known, found: Found) -> str:
+        row = known.references[found.row]
+        wrong = []
+        if row.organization.upper() != organization:
+            wrong.append(f"organization is {shown(row.organization)} and not {shown(organization)}")
+        if row.organization_coordsys_id != row.srs_id:
+            wrong.append(f"organization_coordsys_id is {row.organization_coordsys_id}")
+        if definition is not None and row.definition != definition:
+            wrong.append(f"definition is {shown(row.definition)} and not {shown(definition)}")
+        return f"srs_id {row.srs_id}: " + "; ".join(wrong)
+
+    return told
+
+
+# Contents
+
+
+def no_map(known: Known) -> str:
+    types = sorted({row.data_type for row in known.contents})
+    there = "the data_types are " + ", ".join(map(shown, types)) if types else "there are no rows"
+    return f'no row has data_type "tiles" or "features"; {there}'
+
+
+def repeated_contents(known: Known, found: Found) -> str:
+    return f"table_name {shown(known.contents[found.row].table_name)} is already in row {found.partner}"
+
+
+def wrong_date(known: Known, found: Found) -> str:
+    row = known.contents[found.row]
+    return f"{shown(row.table_name)}: last_change is {shown(row.last_change)}"
+
+
+def unknown_contents_srs(known: Known, found: Found) -> str:
+    row = known.contents[found.row]
+    return f"{shown(row.table_name)}: no reference system has srs_id {row.srs_id}"
+
+
+def other_srs(known: Known, found: Found) -> str:
+    row = known.contents[found.row]
+    here = "NULL" if row.srs_id is None else row.srs_id
+    return f"{shown(row.table_name)}: srs_id is {here} here, and {known.sets[found.partner].srs_id} in the matrix set"
+
+
+def no_set(known: Known, found: Found) -> str:
+    return f"{shown(known.contents[found.row].table_name)} has no matrix set"
+
+
+def unlisted(known: Known, name: bytes) -> str:
+    """Why a name is no tiles name."""
+    types = [row.data_type for row in known.contents if row.table_name == name]
+    return f"{shown(name)} is " + (f"in contents as {', '.join(map(shown, types))}" if types else "not in contents")
+
+
+# Matrix sets
+
+
+def unlisted_set(known: Known, found: Found) -> str:
+    return unlisted(known, known.sets[found.row].table_name)
+
+
+def repeated_set(known: Known, found: Found) -> str:
+    return f"table_name {shown(known.sets[found.row].table_name)} is already in row {found.partner}"
+
+
+def unknown_set_srs(known: Known, found: Found) -> str:
+    row = known.sets[found.row]
+    return f"{shown(row.table_name)}: no reference system has srs_id {row.srs_id}"
+
+
+# Matrices
+
+
+def level(matrix: Matrix) -> str:
+    return f"{shown(matrix.table_name)} zoom {matrix.zoom_level}"
+
+
+def unlisted_matrix(known: Known, found: Found) -> str:
+    row = known.matrices[found.row]
+    return f"zoom {row.zoom_level}: {unlisted(known, row.table_name)}"
+
+
+def repeated_matrix(known: Known, found: Found) -> str:
+    return f"{level(known.matrices[found.row])} is already in row {found.partner}"
+
+
+def not_halved(known: Known, found: Found) -> str:
+    row, lower = known.matrices[found.row], known.matrices[found.partner]
+    wrong = [
+        f"pixel_{axis}_size is {own!r}, twice that {2 * own!r}, but zoom {lower.zoom_level} has {other!r}"
+        for axis, own, other in pixel_sizes(row, lower)
+        if not is_near(2 * own, other)
+    ]
+    return f"{level(row)}: " + "; ".join(wrong)
+
+
+def not_below(known: Known, found: Found) -> str:
+    row, lower = known.matrices[found.row], known.matrices[found.partner]
+    wrong = [
+        f"pixel_{axis}_size is {own!r}, not below the {other!r} of zoom {lower.zoom_level}"
+        for axis, own, other in pixel_sizes(row, lower)
+        if not own < other
+    ]
+    return f"{level(row)}: " + "; ".join(wrong)
+
+
+def pixel_sizes(row: Matrix, lower: Matrix) -> List[Tuple[str, float, float]]:
+    return [("x", row.pixel_x_size, lower.pixel_x_size), ("y", row.pixel_y_size, lower.pixel_y_size)]
+
+
+def wrong_side(axis: str, side: str) -> Words:
+    """451 and 452: the two lengths that should be near, worked out."""
+
+    def told(known: Known, found: Found) -> str:
+        row = known.matrices[found.row]
+        extent = known.first_set[row.table_name]
+        least, most = getattr(extent, f"min_{axis}"), getattr(extent, f"max_{axis}")
+        tiles, pixels = getattr(row, f"matrix_{side}"), getattr(row, f"tile_{side}")
+        size = getattr(row, f"pixel_{axis}_size")
+        start = f"{level(row)}: max_{axis} {most!r} - min_{axis} {least!r} = {most - least!r}, but "
+        names = f"matrix_{side} {tiles} * tile_{side} {pixels}"
+        if tiles < 1 or pixels < 1:
+            return f"{start}{names} is no {side}"
+        if tiles * pixels > LARGEST_EXACT:
+            return f"{start}{names} is above 2^53"
+        product = float(tiles * pixels) * size
+        return f"{start}{names} * pixel_{axis}_size {size!r} = {product!r}{distance(product, most - least)}"
+
+    return told
+
+
+def below(column: str, least: int) -> Words:
+    return lambda known, found: (
+        f"{level(known.matrices[found.row])}: {column} is {getattr(known.matrices[found.row], column)}, below {least}"
+    )
+
+
+def no_size(column: str) -> Words:
+    return lambda known, found: (
+        f"{level(known.matrices[found.row])}: {column} is {getattr(known.matrices[found.row], column)!r}"
+    )
+
+
+# Tiles
+
+
+def address(tile: Tile) -> str:
+    return f"zoom {tile.zoom_level}, column {tile.tile_column}, row {tile.tile_row}"
+
+
+def unlisted_tile(known: Known, found: Found) -> str:
+    tile = known.tile(found.row)
+    return f"{address(tile)}: {unlisted(known, tile.table_name)}"
+
+
+def unplaced_tile(known: Known, found: Found) -> str:
+    tile = known.tile(found.row)
+    return f"{address(tile)}: {shown(tile.table_name)} has no matrix for zoom {tile.zoom_level}"
+
+
+def doubled_tile(known: Known, found: Found) -> str:
+    tile = known.tile(found.row)
+    return f"{address(tile)}: {shown(tile.table_name)} has that address already in row {found.partner}"
+
+
+def tile_off_levels(known: Known, found: Found) -> str:
+    tile = known.tile(found.row)
+    zooms = known.zooms[tile.table_name]
+    return f"{address(tile)}: {shown(tile.table_name)} has zooms {min(zooms)} to {max(zooms)}"
+
+
+def tile_off_matrix(places: str, side: str) -> Words:
+    def told(known: Known, found: Found) -> str:
+        tile = known.tile(found.row)
+        at = known.first_matrix[tile.table_name, tile.zoom_level]
+        size = getattr(known.matrices[at], side)
+        there = f"{places} 0 to {size - 1}" if size > 0 else f"no {places}"
+        return f"{address(tile)}: {shown(tile.table_name)} has {there} there ({side} {size}, matrices row {at})"
+
+    return told
+
+
+# Extensions
+
+
+def column_without_table(known: Known, found: Found) -> str:
+    row = known.extensions[found.row]
+    return f"{shown(row.extension_name)}: column_name is {shown(row.column_name)} and table_name is NULL"
+
+
+def wrong_extension_name(known: Known, found: Found) -> str:
+    return f"extension_name is {shown(known.extensions[found.row].extension_name)}"
+
+
+def repeated_extension(known: Known, found: Found) -> str:
+    row = known.extensions[found.row]
+    names = ", ".join(map(shown, [row.table_name, row.column_name, row.extension_name]))
+    return f"{names} is already in row {found.partner}"
+
+
+def wrong_scope(known: Known, found: Found) -> str:
+    row = known.extensions[found.row]
+    return f"{shown(row.extension_name)}: scope is {shown(row.scope)}"
+
+
+# Doubles
+
+
+def is_positive(value: float) -> bool:
+    return 0 < value < float("inf")
+
+
+def steps(one: float, other: float) -> int:
+    """How many steps it is from one positive double to the other."""
+    patterns = struct.unpack("<2q", struct.pack("<2d", one, other))
+    return abs(int(patterns[0]) - int(patterns[1]))
+
+
+def is_near(one: float, other: float) -> bool:
+    return is_positive(one) and is_positive(other) and steps(one, other) <= NEAR_STEPS
+
+
+def distance(one: float, other: float) -> str:
+    if not (is_positive(one) and is_positive(other)):
+        return ""
+    return f"; that is {steps(one, other):,} steps off, and {NEAR_STEPS} are allowed"
+
+
+WITHOUT_A_ROW: Dict[int, Callable[[Known], str]] = {
+    111: missing(4326),
+    112: missing(-1),
+    113: missing(0),
+    171: no_map,
+}
+
+WITH_A_ROW: Dict[int, Words] = {
+    101: repeated_srs,
+    111: wrong_srs(b"EPSG", None),
+    112: wrong_srs(b"NONE", b"undefined"),
+    113: wrong_srs(b"NONE", b"undefined"),
+    131: repeated_contents,
+    151: wrong_date,
+    161: unknown_contents_srs,
+    162: other_srs,
+    341: unlisted_tile,
+    351: not_halved,
+    391: unlisted_set,
+    392: repeated_set,
+    401: no_set,
+    411: unknown_set_srs,
+    431: unlisted_matrix,
+    432: repeated_matrix,
+    441: unplaced_tile,
+    451: wrong_side("x", "width"),
+    452: wrong_side("y", "height"),
+    461: below("zoom_level", 0),
+    471: below("matrix_width", 1),
+    481: below("matrix_height", 1),
+    491: below("tile_width", 1),
+    501: below("tile_height", 1),
+    511: no_size("pixel_x_size"),
+    521: no_size("pixel_y_size"),
+    531: not_below,
+    541: doubled_tile,
+    551: tile_off_levels,
+    561: tile_off_matrix("columns", "matrix_width"),
+    571: tile_off_matrix("rows", "matrix_height"),
+    601: column_without_table,
+    621: wrong_extension_name,
+    622: repeated_extension,
+    641: wrong_scope,
+}
