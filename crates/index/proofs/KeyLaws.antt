@@ -1,8 +1,8 @@
 -- Each kind of key: a row that answers to a key has it (sound), a row answers to its own (own), and the code reads it (read).
 use Prim.Native.Nat.{ℕ}
-use mathlib.Core.Path.{_≡_, refl, sym, ap, _∙_}
+use mathlib.Core.Path.{_≡_, refl, sym, ap}
 use mathlib.Core.List.{List}
-use mathlib.Core.Bool.{Bool, true, false, _&&_}
+use mathlib.Core.Bool.{Bool, true, _&&_, and-eq-true-iff}
 use lib.IntN.{ℤ, pos, negsuc}
 use borrow.Author.Tests.{eq-eqb}
 use Rattle.octets.specs.Numbers.{signed, eqZ}
@@ -13,12 +13,11 @@ use Rattle.pack.specs.declared.ContentsRow.{ContentsRow}
 use Rattle.pack.specs.declared.SetRow.{SetRow}
 use Rattle.pack.specs.declared.MatrixRow.{MatrixRow}
 use Rattle.pack.specs.declared.TileRow.{TileRow}
-use Rattle.pack.specs.Tables.{contentsRow, setRow, matrixRow, tileRow, contentOf, setOf, matrixOf, tileOf, contentsOf, setsOf, matricesOf, tilesOf}
+use Rattle.pack.specs.Tables.{contentsRow, setRow, matrixRow, tileRow, contentOf, setOf, matrixOf, tileOf, contentsOf, matricesOf, tilesOf}
 use Rattle.spelling.specs.Words.{tiles}
 use Rattle.rules.specs.Contents.{ofType, givesTiles, setNamed}
 use Rattle.rules.specs.Matrices.{matrixNamed, atLevel, tileNamed}
 use Rattle.rules.specs.Tiles.{atAddress}
-use Rattle.index.specs.ChainLaws.{and-left, and-right}
 use Rattle.index.specs.Keys.{addressOf, tileKey, tileAnswers, matrixKey, matrixAnswers, contentKey, contentAnswers, tileNameKey, tileNameAnswers, setKey, setAnswers}
 
 eqZ-refl : (z : ℤ) → eqZ z z ≡ true
@@ -30,12 +29,13 @@ module _ (t names : List ℕ) where
   unfolding atAddress
   tile-sound a k e =
       let q = tilesOf t names .row k in
-      let f = and-right (same (a .0) (q .name)) (eqZ (a .1) (q .zoom) && (eqZ (a .2) (q .column) && eqZ (a .3) (q .row))) e in
-      let g = and-right (eqZ (a .1) (q .zoom)) (eqZ (a .2) (q .column) && eqZ (a .3) (q .row)) f in
-      let x : a .0 ≡ q .name = same-equal _ _ (and-left (same (a .0) (q .name)) _ e) in
-      let z : a .1 ≡ q .zoom = eqZ-true _ _ (and-left (eqZ (a .1) (q .zoom)) _ f) in
-      let c : a .2 ≡ q .column = eqZ-true _ _ (and-left (eqZ (a .2) (q .column)) _ g) in
-      let r : a .3 ≡ q .row = eqZ-true _ _ (and-right (eqZ (a .2) (q .column)) _ g) in
+      let f = and-eq-true-iff (same (a .0) (q .name)) (eqZ (a .1) (q .zoom) && (eqZ (a .2) (q .column) && eqZ (a .3) (q .row))) .0 e in
+      let g = and-eq-true-iff (eqZ (a .1) (q .zoom)) (eqZ (a .2) (q .column) && eqZ (a .3) (q .row)) .0 (f .1) in
+      let h = and-eq-true-iff (eqZ (a .2) (q .column)) (eqZ (a .3) (q .row)) .0 (g .1) in
+      let x : a .0 ≡ q .name = same-equal _ _ (f .0) in
+      let z : a .1 ≡ q .zoom = eqZ-true _ _ (g .0) in
+      let c : a .2 ≡ q .column = eqZ-true _ _ (h .0) in
+      let r : a .3 ≡ q .row = eqZ-true _ _ (h .1) in
       λ i. (x i, z i, c i, r i)
 
   pub tile-own : (k : ℕ) → tileAnswers t names (tileKey t names k) k ≡ true
@@ -50,8 +50,9 @@ module _ (t names : List ℕ) where
   unfolding atLevel matrixNamed
   matrix-sound a k e =
       let q = matricesOf t names .row k in
-      let x : a .0 ≡ q .name = same-equal _ _ (and-left (same (a .0) (q .name)) (eqZ (a .1) (q .zoom)) e) in
-      let z : a .1 ≡ q .zoom = eqZ-true _ _ (and-right (same (a .0) (q .name)) (eqZ (a .1) (q .zoom)) e) in
+      let f = and-eq-true-iff (same (a .0) (q .name)) (eqZ (a .1) (q .zoom)) .0 e in
+      let x : a .0 ≡ q .name = same-equal _ _ (f .0) in
+      let z : a .1 ≡ q .zoom = eqZ-true _ _ (f .1) in
       λ i. (x i, z i)
 
   pub matrix-own : (k : ℕ) → matrixAnswers t names (matrixKey t names k) k ≡ true
@@ -64,7 +65,7 @@ module _ (t names : List ℕ) where
 
   pub content-sound : (x : List ℕ) (k : ℕ) → contentAnswers t names x k ≡ true → x ≡ contentKey t names k
   unfolding givesTiles
-  content-sound x k e = let q = contentsOf t names .row k in same-equal _ _ (and-left (same x (q .name)) (ofType tiles q) e)
+  content-sound x k e = let q = contentsOf t names .row k in same-equal _ _ (and-eq-true-iff (same x (q .name)) (ofType tiles q) .0 e .0)
 
   pub content-own : (k : ℕ) (q : ContentsRow) (b : Bool) → q ≡ contentsRow t k → b ≡ givesTiles (spell names (q .name)) (contentOf names q)
       → contentAnswers t names (contentKey t names k) k ≡ b

@@ -1,6 +1,6 @@
 -- The laws of words that are written, and of the index that they make.
 use Prim.Native.Nat.{ℕ, suc, _+_, _-_, _*_, _/_, _%_, _<_, _≤_}
-use mathlib.Core.Path.{_≡_, sym, ap, _∙_, subst}
+use mathlib.Core.Path.{_≡_, sym, _∙_, subst}
 use mathlib.Core.List.{List}
 use mathlib.Core.Bool.{Bool, true, false}
 use native.Mathlib.Omega.{arith}
@@ -13,7 +13,7 @@ use lib.Seq.{getD-set-same, getD-set-other}
 use Rattle.octets.specs.Octets.{le32}
 use Rattle.index.specs.Chains.{isEntry, Index}
 use Rattle.index.specs.ChainLaws.{by-test, newest-le, index-none, index-old, index-new}
-use Rattle.index.specs.Work.{wordAt, putWord, pushed, Indexed, odd, headsFor, Ready}
+use Rattle.index.specs.Work.{wordAt, putWord, pushed, Indexed, headsFor, Ready}
 
 pub length-put : (w : List ℕ) (j x : ℕ) → length (putWord w j x) ≡ length w
 unfolding putWord

@@ -1,28 +1,20 @@
 -- The laws of a chained index, for any `fits` and any `hash`: what a walk finds, and how a row is entered.
 use Prim.Native.Nat.{ℕ, zero, suc, _<_, _≤_}
-use mathlib.Core.Path.{_≡_, refl, sym, ap, _∙_, subst}
-use mathlib.Core.Bool.{Bool, true, false, cond, _&&_, false≢true}
+use mathlib.Core.Path.{_≡_, refl, sym, ap, _∙_}
+use mathlib.Core.Bool.{Bool, true, false, cond, _&&_, false≢true, and-eq-true-iff}
 use mathlib.Core.Logic.{⊎-elim}
 use native.Mathlib.Nat.{eq-or-lt-of-le}
 use native.Mathlib.Omega.{arith}
-use borrow.Author.Tests.{eqb-true, eqb-false, eq-eqb, ne-eqb, ltb-true, ltb-false, lt-ltb, le-ltb}
+use borrow.Author.Tests.{eqb-true, eqb-false, eq-eqb, ltb-true, ltb-false}
 use lib.Dec.{eqb, ltb}
 use Rattle.octets.specs.Search.{first}
-use Rattle.octets.specs.SearchLaws.{Lowest, first-lowest, first-agree}
+use Rattle.octets.specs.SearchLaws.{Lowest, first-lowest}
 use Rattle.index.specs.Chains.{isEntry, newest, Index, Asks, Walk}
 
 -- by cases on a test
 pub by-test : {A : Type 0} (b : Bool) → (b ≡ true → A) → (b ≡ false → A) → A
 by-test true t f = t refl
 by-test false t f = f refl
-
-pub and-left : (a b : Bool) → (a && b) ≡ true → a ≡ true
-and-left true b e = refl
-and-left false b e = e
-
-pub and-right : (a b : Bool) → (a && b) ≡ true → b ≡ true
-and-right true b e = e
-and-right false b e = absurd (false≢true e)
 
 -- ---- the lowest row that passes a test
 module _ (p : ℕ → Bool) where
@@ -120,10 +112,10 @@ module _ (fits : ℕ → ℕ → Bool) (hash : ℕ → ℕ) (h : ℕ) where
     on-chain = by-test (isEntry fits k && eqb (hash k) h) (λ t. t) (λ f. absurd (omega (arith, newest-miss k f, newest-le k)))
 
     chain-entry : isEntry fits k ≡ true
-    chain-entry = and-left (isEntry fits k) (eqb (hash k) h) on-chain
+    chain-entry = and-eq-true-iff (isEntry fits k) (eqb (hash k) h) .0 on-chain .0
 
     chain-hash : hash k ≡ h
-    chain-hash = eqb-true (hash k) h (and-right (isEntry fits k) (eqb (hash k) h) on-chain)
+    chain-hash = eqb-true (hash k) h (and-eq-true-iff (isEntry fits k) (eqb (hash k) h) .0 on-chain .1)
 
 -- ---- a walk
 -- where rows have keys and passing is a matter of the key alone, a test for a key asks for it

@@ -1,7 +1,7 @@
 -- The hash of a key: a name and three numbers, 0 for those that the key does not have. Nothing rests on how it spreads the keys, only the speed does.
 use Prim.Native.Nat.{ℕ, _+_, _-_, _*_, _/_, _%_}
 use mathlib.Core.List.{List}
-use mathlib.Core.Bool.{Bool, cond}
+use mathlib.Core.Bool.{cond}
 use lib.Dec.{leb}
 use lib.IntN.{ℤ}
 use lib.ListN.{length, getD}
@@ -17,15 +17,15 @@ folded x = x % 4294967296 + x / 4294967296 * 31
 unfoldable pub sumOf : ℕ → ℕ → ℕ → ℕ → ℕ
 sumOf a b c d = folded a * 30074027 + folded b * 27094741 + folded c * 20888029 + folded d * 23422549
 
--- a name by its length and its first, middle and last eight octets; a shorter one by its first and last four, or by all three
+-- a name by its length and its first, middle and last eight octets; a shorter one by its first and last four, or by each octet
 unfoldable pub nameMix : List ℕ → ℕ
 nameMix x =
     cond (leb 8 (length x)) (sumOf (length x) (le64 x 0) (le64 x (length x / 2 - 4)) (le64 x (length x - 8)))
     (cond (leb 4 (length x)) (sumOf (length x) (le32 x 0) 0 (le32 x (length x - 4))) (sumOf (length x) (getD x 0 0) (getD x 1 0) (getD x 2 0)))
 
--- a place among m
+-- a place among m: a remainder of a u32, which is the quick one
 unfoldable pub placeOf : ℕ → ℕ → ℕ
-placeOf m x = folded x * 33554393 / 65536 % m
+placeOf m x = folded x * 33554393 / 65536 % 4294967296 % m
 
 -- the 64-bit pattern of a whole number
 abbrev pub pattern : ℤ → ℕ

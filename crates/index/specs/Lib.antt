@@ -1,6 +1,6 @@
 pub mod Chains
 pub mod ChainLaws
 pub mod Work
-pub mod UseLaws
+pub mod WorkLaws
 pub mod Hashes
 pub mod Keys

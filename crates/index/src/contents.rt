@@ -10,6 +10,7 @@ ghost use Rattle.index.specs.Work.{headsFor, Leads};
 ghost use Rattle.index.specs.Keys.{contentAnswers, ContentIndexed, ContentEntered};
 use crate::hashes;
 use crate::work;
+use listing::ContentsTable;
 use octets::Name;
 use seek::ContentTest;
 
@@ -62,7 +63,7 @@ pub fn enter_content(contents: &[u8], names: &[u8], work: &mut [u8], m: usize, i
 pub fn index_contents(contents: &[u8], names: &[u8], work: &mut [u8]) -> usize
     ensures { λ m. ⌜ (m ≡ headsFor (length (now (work .entry)) / 4) (length (now (contents .entry)) / 40)) × ContentIndexed (now (contents .entry)) (now (names .entry)) (now (work .exit)) m (length (now (contents .entry)) / 40) ⌝ }
 {
-    let n = contents.len() / 40;
+    let n = contents.len() / (ContentsTable::ROW as usize);
     let m = work::start(work, n);
     if m == 0 {
         return m;
@@ -80,7 +81,7 @@ pub fn find_content(contents: &[u8], names: &[u8], work: &[u8], m: usize, name: 
     requires { ⌜ ContentIndexed (now contents) (now names) (now work) m (length (now contents) / 40) ⌝ }
     ensures { λ r. ⌜ r ≡ first (contentAnswers (now (contents .entry)) (now (names .entry)) (spell (now (names .entry)) name)) (length (now (contents .entry)) / 40) ⌝ }
 {
-    let n = contents.len() / 40;
+    let n = contents.len() / (ContentsTable::ROW as usize);
     let test = ContentTest::Tiles(name);
     if m == 0 {
         return seek::first_content(contents, names, test, n);

@@ -57,7 +57,7 @@ fn place(m: usize, x: u64) -> usize
     requires { ⌜ 0 < m ⌝ }
     ensures { λ h. ⌜ (h ≡ placeOf m x) × (h < m) ⌝ }
 {
-    (fold(x) * 33554393 / 65536) as usize % m
+    (fold(x) * 33554393 / 65536 % 4294967296) as usize % m
 }
 
 // The place of a name and three numbers, by their patterns, among m heads.

@@ -11,6 +11,7 @@ ghost use Rattle.index.specs.Work.{headsFor, Leads};
 ghost use Rattle.index.specs.Keys.{matrixAnswers, MatrixIndexed, MatrixEntered};
 use crate::hashes;
 use crate::work;
+use listing::MatrixTable;
 use octets::Name;
 use seek::MatrixTest;
 
@@ -61,7 +62,7 @@ pub fn enter_matrix(matrices: &[u8], names: &[u8], work: &mut [u8], m: usize, i:
 pub fn index_matrices(matrices: &[u8], names: &[u8], work: &mut [u8]) -> usize
     ensures { λ m. ⌜ (m ≡ headsFor (length (now (work .entry)) / 4) (length (now (matrices .entry)) / 64)) × MatrixIndexed (now (matrices .entry)) (now (names .entry)) (now (work .exit)) m (length (now (matrices .entry)) / 64) ⌝ }
 {
-    let n = matrices.len() / 64;
+    let n = matrices.len() / (MatrixTable::ROW as usize);
     let m = work::start(work, n);
     if m == 0 {
         return m;
@@ -86,7 +87,7 @@ pub fn find_matrix(
     requires { ⌜ MatrixIndexed (now matrices) (now names) (now work) m (length (now matrices) / 64) ⌝ }
     ensures { λ r. ⌜ r ≡ first (matrixAnswers (now (matrices .entry)) (now (names .entry)) (spell (now (names .entry)) name, signed zoom)) (length (now (matrices .entry)) / 64) ⌝ }
 {
-    let n = matrices.len() / 64;
+    let n = matrices.len() / (MatrixTable::ROW as usize);
     let test = MatrixTest::Level { name, zoom };
     if m == 0 {
         return seek::first_matrix(matrices, names, test, n);

@@ -10,6 +10,7 @@ ghost use Rattle.index.specs.Work.{headsFor, Leads};
 ghost use Rattle.index.specs.Keys.{setAnswers, SetIndexed, SetEntered};
 use crate::hashes;
 use crate::work;
+use listing::SetTable;
 use octets::Name;
 use seek::SetTest;
 
@@ -59,7 +60,7 @@ pub fn enter_set(sets: &[u8], names: &[u8], work: &mut [u8], m: usize, i: usize)
 pub fn index_sets(sets: &[u8], names: &[u8], work: &mut [u8]) -> usize
     ensures { λ m. ⌜ (m ≡ headsFor (length (now (work .entry)) / 4) (length (now (sets .entry)) / 48)) × SetIndexed (now (sets .entry)) (now (names .entry)) (now (work .exit)) m (length (now (sets .entry)) / 48) ⌝ }
 {
-    let n = sets.len() / 48;
+    let n = sets.len() / (SetTable::ROW as usize);
     let m = work::start(work, n);
     if m == 0 {
         return m;
@@ -77,7 +78,7 @@ pub fn find_set(sets: &[u8], names: &[u8], work: &[u8], m: usize, name: Name) ->
     requires { ⌜ SetIndexed (now sets) (now names) (now work) m (length (now sets) / 48) ⌝ }
     ensures { λ r. ⌜ r ≡ first (setAnswers (now (sets .entry)) (now (names .entry)) (spell (now (names .entry)) name)) (length (now (sets .entry)) / 48) ⌝ }
 {
-    let n = sets.len() / 48;
+    let n = sets.len() / (SetTable::ROW as usize);
     let test = SetTest::Named(name);
     if m == 0 {
         return seek::first_set(sets, names, test, n);

@@ -9,6 +9,7 @@ ghost use Rattle.index.specs.Keys.{tileNameAnswers, TileNameIndexed, Til
 use crate::hashes;
 use crate::tiles;
 use crate::work;
+use listing::TileTable;
 use octets::Name;
 use seek::TileTest;
 
@@ -34,7 +35,7 @@ pub fn enter_tile_name(tiles: &[u8], names: &[u8], work: &mut [u8], m: usize, i:
 pub fn index_tile_names(tiles: &[u8], names: &[u8], work: &mut [u8]) -> usize
     ensures { λ m. ⌜ (m ≡ headsFor (length (now (work .entry)) / 4) (length (now (tiles .entry)) / 32)) × TileNameIndexed (now (tiles .entry)) (now (names .entry)) (now (work .exit)) m (length (now (tiles .entry)) / 32) ⌝ }
 {
-    let n = tiles.len() / 32;
+    let n = tiles.len() / (TileTable::ROW as usize);
     let m = work::start(work, n);
     if m == 0 {
         return m;
@@ -52,7 +53,7 @@ pub fn find_tile_name(tiles: &[u8], names: &[u8], work: &[u8], m: usize, name: N
     requires { ⌜ TileNameIndexed (now tiles) (now names) (now work) m (length (now tiles) / 32) ⌝ }
     ensures { λ r. ⌜ r ≡ first (tileNameAnswers (now (tiles .entry)) (now (names .entry)) (spell (now (names .entry)) name)) (length (now (tiles .entry)) / 32) ⌝ }
 {
-    let n = tiles.len() / 32;
+    let n = tiles.len() / (TileTable::ROW as usize);
     let test = TileTest::Named(name);
     if m == 0 {
         return seek::first_tile(tiles, names, test, n);

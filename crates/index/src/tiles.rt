@@ -9,6 +9,7 @@ ghost use Rattle.index.specs.Work.{headsFor, Leads};
 ghost use Rattle.index.specs.Keys.{addressOf, tileAnswers, TileIndexed, TileEntered};
 use crate::hashes;
 use crate::work;
+use listing::TileTable;
 use pack::TileRow;
 use seek::TileTest;
 
@@ -70,7 +71,7 @@ pub fn enter_tile(tiles: &[u8], names: &[u8], work: &mut [u8], m: usize, i: usiz
 pub fn index_tiles(tiles: &[u8], names: &[u8], work: &mut [u8]) -> usize
     ensures { λ m. ⌜ (m ≡ headsFor (length (now (work .entry)) / 4) (length (now (tiles .entry)) / 32)) × TileIndexed (now (tiles .entry)) (now (names .entry)) (now (work .exit)) m (length (now (tiles .entry)) / 32) ⌝ }
 {
-    let n = tiles.len() / 32;
+    let n = tiles.len() / (TileTable::ROW as usize);
     let m = work::start(work, n);
     if m == 0 {
         return m;
@@ -88,7 +89,7 @@ pub fn find_tile(tiles: &[u8], names: &[u8], work: &[u8], m: usize, a: TileRow) 
     requires { ⌜ TileIndexed (now tiles) (now names) (now work) m (length (now tiles) / 32) ⌝ }
     ensures { λ r. ⌜ r ≡ first (tileAnswers (now (tiles .entry)) (now (names .entry)) (addressOf (now (names .entry)) a)) (length (now (tiles .entry)) / 32) ⌝ }
 {
-    let n = tiles.len() / 32;
+    let n = tiles.len() / (TileTable::ROW as usize);
     let test = at_address(a);
     if m == 0 {
         return seek::first_tile(tiles, names, test, n);

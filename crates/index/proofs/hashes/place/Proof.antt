@@ -1,6 +1,4 @@
 -- `index::hashes/place` meets its contract.
-use Prim.Native.Nat.{ℕ, _*_, _/_, _%_}
-use mathlib.Core.Path.{ap}
 use native.Mathlib.Nat.{mod-lt}
 use Rattle.index.specs.Hashes.{placeOf}
 use borrow.Author.Needs.{needs}

@@ -3,7 +3,7 @@ use Prim.Native.Nat.{_-_, _≤_}
 use mathlib.Core.Path.{_≡_, refl, _∙_}
 use native.Mathlib.Omega.{arith}
 use lib.ListN.{length}
-use Rattle.index.specs.UseLaws.{keyed-start}
+use Rattle.index.specs.WorkLaws.{keyed-start}
 use Rattle.index.proofs.Entering.{keyed-none, keyed-all}
 use Rattle.index.specs.Keys.{SetIndexed}
 use borrow.Author.Needs.{needs}
@@ -21,6 +21,8 @@ index-sets-spec =
     tie.close
     (tie.spec Inv-loop
     μ-loop
+    (λ c. search needs)
+    (λ c. search needs)
     (λ c κs. search needs)
     (λ c. omega arith)
     (λ c. (c .before .before .before .start .ensures .0, keyed-none (c .if1 .taken)))

@@ -9,7 +9,9 @@ use Rattle.index.proofs.tile_names.find_tile_name.Tie as tie
 pub find-tile-name-spec : {M : Type 1} → statement M
 find-tile-name-spec =
     tie.close
-    (tie.spec (λ c κs. search needs)
+    (tie.spec (λ c. search needs)
+    (λ c. search needs)
+    (λ c κs. search needs)
     (λ c. search needs)
     (λ c κs. search needs)
     (λ c κs. let h = c .hash .ensures in keyed-leads (c .before .before .before .before .before .pre) (tile-name-sound _ _ _) (c .before .if1 .left) (h .0) (h .1) (le-refl _))

@@ -9,7 +9,9 @@ use Rattle.index.proofs.tiles.find_tile.Tie as tie
 pub find-tile-spec : {M : Type 1} → statement M
 find-tile-spec =
     tie.close
-    (tie.spec (λ c κs. search needs)
+    (tie.spec (λ c. search needs)
+    (λ c. search needs)
+    (λ c κs. search needs)
     (λ c κs. search needs)
     (λ c. rw (c .before .before .at-address .ensures) at (c .first-tile .ensures))
     (λ c κs. search needs)

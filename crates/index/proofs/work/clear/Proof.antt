@@ -1,12 +1,11 @@
 -- `index::work/clear` meets its contract.
-use Prim.Native.Nat.{ℕ, _*_, _-_, _≤_, _<_}
+use Prim.Native.Nat.{ℕ, _-_, _≤_, _<_}
 use mathlib.Core.Path.{_≡_, refl, _∙_}
 use native.Mathlib.Omega.{arith}
 use borrow.Author.Count.{below-none, below-more}
 use lib.ListN.{length, getD, length-set}
 use lib.Seq.{getD-set-same, getD-set-other}
 use Rattle.index.proofs.Words.{word-zero}
-use borrow.Author.Needs.{needs}
 use Rattle.index.proofs.work.clear.Statement.{statement}
 use Rattle.index.proofs.work.clear.Tie as tie
 

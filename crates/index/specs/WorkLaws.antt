@@ -1,6 +1,6 @@
 -- The laws that a caller needs: an index starts with no row; and of the rows below another, the lowest that a search of all rows finds.
 use Prim.Native.Nat.{ℕ, _≤_}
-use mathlib.Core.Path.{_≡_, sym}
+use mathlib.Core.Path.{_≡_}
 use mathlib.Core.List.{List}
 use mathlib.Core.Bool.{Bool}
 use native.Mathlib.Nat.{le-refl}
