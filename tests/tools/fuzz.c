@@ -4,7 +4,8 @@
  *     fuzz COUNT SEED LISTING ..
  *
  * Input i is decided by SEED + i alone, so `fuzz 1 NUMBER LISTING ..` repeats the one that a message names. Each buffer
- * ends at a wall, with sentinels before it, and starts at any alignment. That the answers are right is not tested here
+ * ends at a wall, with sentinels before it, and starts at any alignment; under AddressSanitizer what lies before it is
+ * forbidden while it is lent. That the answers are right is not tested here
  * (tests/second does that), only that the three calls agree with each other.
  *
  * Exit status: 0 every promise kept; 1 one broken; 2 called wrongly.
@@ -49,10 +50,14 @@ static struct {
     size_t size[MOST_LISTINGS];
 } listings;
 
-/* Where the buffers of each kind end. */
+/* What the buffers of one kind are lent from: they end at the wall, and the one that is lent now starts here. */
+struct room {
+    uint8_t *wall, *start;
+};
+
 static struct {
-    uint8_t *listing, *findings, *work, *answer;
-} walls;
+    struct room listing, findings, work, answer;
+} rooms;
 
 /* What the tried inputs came to; a fuzzer that is always refused tests little. */
 static struct {
@@ -84,10 +89,21 @@ static void tell_input(int number)
     signal(number, SIG_DFL);
 }
 
-static struct lent lend(struct chance *chance, uint8_t *wall, size_t size)
+/* AddressSanitizer has said what is wrong, and ends the program. */
+static void tell_found(void)
 {
-    struct lent lent = { wall - size, size, draw_below(chance, FILLINGS) };
-    memcpy(lent.octets - SENTINELS, filling + lent.fill, SENTINELS + size);
+    fprintf(stderr, "input %" PRIu64 ": the sanitizer's words are above\n", input_number);
+}
+
+static struct lent lend(struct chance *chance, struct room *room, size_t size)
+{
+    struct lent lent = { room->wall - size, size, draw_below(chance, FILLINGS) };
+    uint8_t *sentinels = lent.octets - SENTINELS;
+    uint8_t *allowed = room->start < sentinels ? room->start : sentinels;
+    allow(sentinels, SENTINELS + size);
+    memcpy(sentinels, filling + lent.fill, SENTINELS + size);
+    forbid(allowed, (size_t)(lent.octets - allowed));
+    room->start = lent.octets;
     /* An empty buffer may have any pointer. */
     if (size == 0 && draw_below(chance, 2) == 0)
         lent.octets = NULL;
@@ -97,9 +113,13 @@ static struct lent lend(struct chance *chance, uint8_t *wall, size_t size)
 /* Are the octets from this place on, and the sentinels before the buffer, as they were lent? */
 static int keeps(struct lent lent, size_t from)
 {
-    return lent.octets == NULL
-        || (memcmp(lent.octets - SENTINELS, filling + lent.fill, SENTINELS) == 0
-            && memcmp(lent.octets + from, filling + lent.fill + SENTINELS + from, lent.size - from) == 0);
+    if (lent.octets == NULL)
+        return 1;
+    allow(lent.octets - SENTINELS, SENTINELS);
+    int is_kept = memcmp(lent.octets - SENTINELS, filling + lent.fill, SENTINELS) == 0
+        && memcmp(lent.octets + from, filling + lent.fill + SENTINELS + from, lent.size - from) == 0;
+    forbid(lent.octets - SENTINELS, SENTINELS);
+    return is_kept;
 }
 
 static struct lent lend_input(struct chance *chance)
@@ -111,7 +131,7 @@ static struct lent lend_input(struct chance *chance)
         which = draw_below(chance, listings.count);
     memcpy(draft, listings.octets[which], listings.size[which]);
     size_t size = damage(chance, draft, listings.size[which], sizeof draft);
-    struct lent listing = lend(chance, walls.listing, size);
+    struct lent listing = lend(chance, &rooms.listing, size);
     if (size > 0) {
         memcpy(listing.octets, draft, size);
         memcpy(original, draft, size);
@@ -153,8 +173,8 @@ static void check_place(struct lent answer, size_t at, uint32_t most_reason)
 static int try_report(struct chance *chance, struct lent listing, struct lent findings, size_t work_size,
                       uint32_t words[5])
 {
-    struct lent work = lend(chance, walls.work, work_size);
-    struct lent answer = lend(chance, walls.answer, draw_answer_size(chance, DESTERLIN_REPORT_ANSWER));
+    struct lent work = lend(chance, &rooms.work, work_size);
+    struct lent answer = lend(chance, &rooms.answer, draw_answer_size(chance, DESTERLIN_REPORT_ANSWER));
     uint32_t returned = desterlin_report(listing.octets, listing.size, findings.octets, findings.size,
                                          work.octets, work.size, answer.octets, answer.size);
     check(is_listing_kept(listing), "report: the listing is never written");
@@ -202,8 +222,8 @@ static void check_verdict(struct chance *chance, struct lent listing, const uint
 {
     size_t which = draw_below(chance, DESTERLIN_CODE_COUNT + 5);
     uint32_t code = which < DESTERLIN_CODE_COUNT ? codes[which] : (uint32_t)draw(chance);
-    struct lent work = lend(chance, walls.work, draw_work_size(chance));
-    struct lent answer = lend(chance, walls.answer, draw_answer_size(chance, DESTERLIN_VERDICT_ANSWER));
+    struct lent work = lend(chance, &rooms.work, draw_work_size(chance));
+    struct lent answer = lend(chance, &rooms.answer, draw_answer_size(chance, DESTERLIN_VERDICT_ANSWER));
     uint32_t returned = desterlin_verdict(listing.octets, listing.size, code, work.octets, work.size,
                                           answer.octets, answer.size);
     check(is_listing_kept(listing), "verdict: the listing is never written");
@@ -260,7 +280,7 @@ static void check_lookup(struct chance *chance, struct lent listing, const uint3
     uint32_t contents_row = draw_below(chance, 16) == 0 ? (uint32_t)draw(chance) : (uint32_t)draw_below(chance, 3);
     int64_t address[3];
     draw_address(chance, listing, is_accepted, address);
-    struct lent answer = lend(chance, walls.answer, draw_answer_size(chance, DESTERLIN_LOOKUP_ANSWER));
+    struct lent answer = lend(chance, &rooms.answer, draw_answer_size(chance, DESTERLIN_LOOKUP_ANSWER));
     uint32_t returned = desterlin_lookup(listing.octets, listing.size, contents_row, address[0], address[1], address[2],
                                          answer.octets, answer.size);
     check(is_listing_kept(listing), "lookup: the listing is never written");
@@ -295,14 +315,14 @@ static void try_input(uint64_t number)
     /* Once with whatever room there is, once with room for all: what both have must be the same. */
     static uint8_t few[FINDINGS_ROOM];
     uint32_t short_report[5] = { 0 }, report[5] = { 0 };
-    struct lent findings = lend(&chance, walls.findings, draw_below(&chance, 200));
+    struct lent findings = lend(&chance, &rooms.findings, draw_below(&chance, 200));
     while (!try_report(&chance, listing, findings, draw_work_size(&chance), short_report))
         continue;
     size_t few_size = (size_t)short_report[DESTERLIN_REPORT_WRITTEN] * DESTERLIN_FINDING;
     if (few_size > 0)
         memcpy(few, findings.octets, few_size);
     size_t whole_size = (size_t)short_report[DESTERLIN_REPORT_TOTAL] * DESTERLIN_FINDING + draw_below(&chance, 20);
-    findings = lend(&chance, walls.findings, whole_size < FINDINGS_ROOM ? whole_size : FINDINGS_ROOM);
+    findings = lend(&chance, &rooms.findings, whole_size < FINDINGS_ROOM ? whole_size : FINDINGS_ROOM);
     while (!try_report(&chance, listing, findings, draw_work_size(&chance), report))
         continue;
     check_findings(findings.octets, report[DESTERLIN_REPORT_WRITTEN]);
@@ -318,9 +338,10 @@ static void try_input(uint64_t number)
         ++*(report[DESTERLIN_REPORT_TOTAL] == 0 ? &tally.without_findings : &tally.with_findings);
 }
 
-static uint8_t *make_wall(size_t most)
+static struct room make_room(size_t most)
 {
-    return (uint8_t *)walled(SENTINELS + most) + SENTINELS + most;
+    uint8_t *start = walled(SENTINELS + most);
+    return (struct room){ start + SENTINELS + most, start };
 }
 
 static void read_listing(const char *path)
@@ -358,14 +379,15 @@ int main(int count, char **words)
         read_listing(words[i]);
     for (size_t i = 0; i < sizeof filling; i++)
         filling[i] = (uint8_t)(37 * i);
-    walls.listing = make_wall(LISTING_ROOM);
-    walls.findings = make_wall(FINDINGS_ROOM);
-    walls.work = make_wall(DESTERLIN_WORK_FULL);
-    walls.answer = make_wall(ANSWER_ROOM);
+    rooms.listing = make_room(LISTING_ROOM);
+    rooms.findings = make_room(FINDINGS_ROOM);
+    rooms.work = make_room(DESTERLIN_WORK_FULL);
+    rooms.answer = make_room(ANSWER_ROOM);
     signal(SIGSEGV, tell_input);
     signal(SIGBUS, tell_input);
     signal(SIGILL, tell_input);
     signal(SIGTRAP, tell_input);
+    when_found(tell_found);
     for (unsigned long i = 0; i < inputs; i++)
         try_input(seed + i);
     print_tally(inputs);

@@ -18,6 +18,9 @@
 
 enum { STACK = 1 << 20, PAINT = 0x5c, PROMISED = 65536 };
 
+/* Without workspace the time of a report grows with the square of the tiles: that is tried on short listings alone. */
+enum { SHORT_LISTING = 65536 };
+
 static uint8_t listing[DESTERLIN_LISTING_MOST];
 static uint8_t findings[1 << 20];
 static uint8_t work[DESTERLIN_WORK_FULL];
@@ -27,7 +30,8 @@ static void *report(void *unused)
 {
     uint8_t answer[DESTERLIN_REPORT_ANSWER];
     desterlin_report(listing, listing_size, findings, sizeof findings, work, sizeof work, answer, sizeof answer);
-    desterlin_report(listing, listing_size, findings, sizeof findings, NULL, 0, answer, sizeof answer);
+    if (listing_size <= SHORT_LISTING)
+        desterlin_report(listing, listing_size, findings, sizeof findings, NULL, 0, answer, sizeof answer);
     return unused;
 }
 

@@ -79,9 +79,38 @@ class Makefile(InRoom):
         self.assertEqual((ran.returncode, ran.stdout, ran.stderr), (0, MADE_SCREEN, ""))
 
 
+def sanitizers() -> str:
+    """Which there are on this machine, in words."""
+    ran = Ran([TESTS / "cc-sanitized", "--how"])
+    if ran.status != 0:
+        raise AssertionError(ran.err)
+    return ran.out.strip()
+
+
+def is_in_proved_code() -> bool:
+    return sanitizers().startswith("AddressSanitizer in the proved code")
+
+
 @needs_library
-class Viewer(unittest.TestCase):
-    """The example under the sanitizers; all memory that it allocates ends at a wall."""
+class Sanitizers(unittest.TestCase):
+    def test_they_see_what_the_proved_code_touches(self) -> None:
+        if not is_in_proved_code():
+            self.skipTest(sanitizers())
+        program, listing = BUILT / "overrun", SAMPLES / "doubled-address.listing"
+        ran = Ran([TESTS / "cc-sanitized", TESTS / "overrun.c", "-o", program])
+        self.assertEqual((ran.status, ran.err), (0, ""))
+        os.environ["ASAN_OPTIONS"] = "detect_leaks=0"
+        for buffer in ["listing", "findings", "work", "answer"]:
+            with self.subTest(buffer):
+                self.assertIn("AddressSanitizer: heap-buffer-overflow", Ran([program, buffer, listing]).err)
+        self.assertIn("AddressSanitizer: heap-use-after-free", Ran([program, "freed", listing]).err)
+        ran = Ran([program, "none", listing])
+        self.assertEqual((ran.status, ran.out, ran.err), (0, "nothing has stopped it\n", ""))
+
+
+@needs_library
+class Viewer(InRoom):
+    """The example under the sanitizers; where they are not in the proved code, what it allocates ends at a wall."""
 
     program = BUILT / "viewer"
 
@@ -90,9 +119,10 @@ class Viewer(unittest.TestCase):
         # Memory behind walls is not searched for leaks, and on some machines the search takes seconds.
         os.environ["ASAN_OPTIONS"] = "detect_leaks=0"
         BUILT.mkdir(parents=True, exist_ok=True)
-        walls = ["-Dmalloc=walled_malloc", "-Dfree=walled_free", "-include", TESTS / "walled.h"]
-        sources = [ROOT / "examples" / "viewer.c", TESTS / "walled.c"]
-        ran = Ran([TESTS / "cc-sanitized", *walls, *sources, judge.library(), "-o", cls.program])
+        walls = ["-Dmalloc=walled_malloc", "-Dfree=walled_free", "-include", TESTS / "walled.h", TESTS / "walled.c"]
+        # In the proved code AddressSanitizer stops a touch on either side of what malloc gives.
+        guards = [] if is_in_proved_code() else walls
+        ran = Ran([TESTS / "cc-sanitized", *guards, ROOT / "examples" / "viewer.c", "-o", cls.program])
         if ran.status != 0:
             raise AssertionError(ran.err)
 
@@ -146,14 +176,33 @@ class Viewer(unittest.TestCase):
     def test_no_octets_and_too_many(self) -> None:
         ran = Ran([self.program, "/dev/null"])
         self.assertIn("reason 1,", ran.out)
-        long = BUILT / "long.listing"
+        long = self.room / "long.listing"
         long.write_bytes(bytes(9_762_881))
         self.assertIn("reason 2,", Ran([self.program, long]).out)
-        long.unlink()
+
+    def test_as_many_tiles_as_there_may_be(self) -> None:
+        listing = self.room / "full.listing"
+        listing.write_bytes(Ran([SECOND, "full", "pyramids", 262_144]).octets)
+        ran = Ran([self.program, listing, 0, 1, 0, 1, 0, 1])
+        self.assertEqual((ran.status, ran.err), (1, ""))
+        self.assertEqual(self.findings(ran.out), judged_by_second(listing.read_bytes()).splitlines()[:-1])
 
 
 @needs_library
-class Stack(unittest.TestCase):
+class Judge(unittest.TestCase):
+    def test_under_the_sanitizers_it_prints_what_the_second_program_does(self) -> None:
+        os.environ["ASAN_OPTIONS"] = "detect_leaks=0"
+        ran = Ran([TESTS / "cc-sanitized", ROOT / "tools" / "judge.c", "-o", BUILT / "judge"])
+        self.assertEqual((ran.status, ran.err), (0, ""))
+        listings = [path.read_bytes() for path in sorted(SAMPLES.glob("*.listing"))]
+        for listing in [*listings, Ran([SECOND, "full", "pyramids", 262_144]).octets]:
+            ran = Ran([BUILT / "judge"], listing)
+            self.assertEqual((ran.status, ran.err), (0, ""))
+            self.assertEqual(ran.out, judged_by_second(listing))
+
+
+@needs_library
+class Stack(InRoom):
     def test_no_call_takes_more_than_is_promised(self) -> None:
         BUILT.mkdir(parents=True, exist_ok=True)
         compiler = os.environ.get("DESTERLIN_CC") or ROOT / "tools" / "cc-x86-64"
@@ -161,10 +210,9 @@ class Stack(unittest.TestCase):
         sources = [TESTS / "stack.c", TESTS / "walled.c"]
         ran = Ran([compiler, *flags, "-Iinclude", "-Itests/tools", *sources, judge.library(), "-o", BUILT / "stack"])
         self.assertEqual((ran.status, ran.err), (0, ""))
-        large = BUILT / "large.listing"
-        large.write_bytes(Ran([SECOND, "full", "pyramids", 1_000]).octets)
-        ran = Ran([BUILT / "stack", SAMPLES / "many-kinds.listing", large])
-        large.unlink()
+        large = self.room / "large.listing"
+        large.write_bytes(Ran([SECOND, "full", "pyramids", 262_144]).octets)
+        ran = Ran([BUILT / "stack", SAMPLES / "many-kinds.listing", SAMPLES / "longest.listing", large])
         self.assertEqual((ran.status, ran.err), (0, ""), ran.out)
 
 

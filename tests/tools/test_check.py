@@ -86,6 +86,40 @@ class Packs(InRoom):
         xml.dom.minidom.parse(str(drawn))
         self.assertIn("column 1, row 2: doubled", drawn.read_text(encoding="utf-8"))
 
+    def full_pack(self, *statements: str) -> Path:
+        """A pack of as many tiles as there may be, all at zoom 9 and column by column."""
+        rows = planted([])
+        rows["gpkg_tile_matrix_set"] = [(FARM, 4326, 0.0, 0.0, 1024.0, 1024.0)]
+        rows["gpkg_tile_matrix"] = [(FARM, 9, 512, 512, 1, 1, 2.0, 2.0)]
+        rows[FARM] = [(9, at // 512, at % 512) for at in range(262_144)]
+        return self.pack(rows, *statements)
+
+    def test_a_few_faults_among_as_many_tiles_as_there_may_be(self) -> None:
+        pack = self.full_pack(
+            f"UPDATE {FARM} SET tile_row = 0 WHERE rowid = 262144",
+            f"UPDATE {FARM} SET tile_column = 512 WHERE rowid = 100001",
+            f"UPDATE {FARM} SET zoom_level = 10 WHERE rowid = 1",
+        )
+        drawn = self.room / "full.svg"
+        ran = Ran([TOOLS / "gpkg-check", "--json", "--svg", drawn, pack])
+        self.assertEqual((ran.status, ran.err), (1, ""))
+        told = json.loads(ran.out)
+        self.assertEqual(told["rows"]["tiles"], 262_144)
+        found = [(finding["code"], finding["row"], finding["partner"]) for finding in told["findings"]]
+        faults = [(441, 0, None), (541, 262_143, 261_632), (551, 0, None), (561, 100_000, None)]
+        self.assertEqual(found, faults)
+        self.assertEqual(told["findings"][1]["partner_at"]["origin"], f'table "{FARM}" rowid 261633')
+        xml.dom.minidom.parse(str(drawn))
+        self.assertIn("2 levels, 262,144 tiles, unplaced 1, outside 1, doubled 2<", drawn.read_text(encoding="utf-8"))
+
+    def test_as_many_tiles_as_there_may_be_and_half_of_them_doubled(self) -> None:
+        ran = Ran([TOOLS / "gpkg-check", self.full_pack(f"UPDATE {FARM} SET tile_row = tile_row / 2")])
+        self.assertEqual((ran.status, ran.err), (1, ""))
+        lines = ran.out.splitlines()
+        self.assertEqual(lines[0], f"{self.room}/pack.gpkg: 131,072 findings")
+        self.assertEqual(sum(line.startswith("     tiles row ") for line in lines), 131_072)
+        self.assertIn("  131,072  541  two tiles at one address", lines)
+
     def test_progress_on_a_terminal_alone(self) -> None:
         ours, theirs = pty.openpty()
         command = [str(TOOLS / "gpkg-check"), str(PACKS / "meadow.gpkg")]
@@ -145,8 +179,8 @@ class Judge(InRoom):
             with self.subTest(path.name):
                 self.same(path.read_bytes())
 
-    def test_more_octets_than_the_desk_program_reads(self) -> None:
-        self.same(Ran([SECOND, "full", "pyramids", 4_000]).octets)
+    def test_as_many_tiles_as_there_may_be(self) -> None:
+        self.same(Ran([SECOND, "full", "pyramids", 262_144]).octets)
 
     def test_no_octets_and_too_many(self) -> None:
         self.same(b"")

@@ -6,6 +6,10 @@
 #include <stdlib.h>
 #include <sys/mman.h>
 
+#if HAS_ADDRESS_SANITIZER
+#include <sanitizer/asan_interface.h>
+#endif
+
 /* The largest page of the machines that the tests run on, which may lie below an emulator. */
 #define PAGE ((size_t)65536)
 
@@ -19,6 +23,44 @@ void *walled(size_t size)
     }
     return start + room - size;
 }
+
+#if HAS_ADDRESS_SANITIZER
+
+void forbid(const void *octets, size_t size)
+{
+    __asan_poison_memory_region(octets, size);
+}
+
+void allow(const void *octets, size_t size)
+{
+    __asan_unpoison_memory_region(octets, size);
+}
+
+void when_found(void (*tell)(void))
+{
+    __asan_set_death_callback(tell);
+}
+
+#else
+
+void forbid(const void *octets, size_t size)
+{
+    (void)octets;
+    (void)size;
+}
+
+void allow(const void *octets, size_t size)
+{
+    (void)octets;
+    (void)size;
+}
+
+void when_found(void (*tell)(void))
+{
+    (void)tell;
+}
+
+#endif
 
 void *walled_malloc(size_t size)
 {

@@ -2,6 +2,7 @@
 
 from __future__ import annotations
 
+from bisect import bisect_right
 from typing import Callable, Dict, List, NamedTuple, Optional
 
 from . import geopackage, judge
@@ -15,16 +16,19 @@ class Judged(NamedTuple):
     listing: Listing
     findings: List[Finding]
     sources: Dict[Table, List[geopackage.Source]]
+    firsts: Dict[Table, List[int]]
     notes: List[str]
 
     def origin(self, table: Table, row: int) -> Optional[str]:
         """Where a row stands in the pack; nowhere, if a listing was judged."""
-        for source in reversed(self.sources.get(table, [])):
-            if source.first <= row:
-                at = row - source.first
-                place = f"row {at}" if source.rowids is None else f"rowid {source.rowids[at]}"
-                return f"{source.relation.words()} {place}"
-        return None
+        sources = self.sources.get(table)
+        if not sources:
+            return None
+        # The last that begins at the row or before it; a pack may have thousands of tables with tiles.
+        source = sources[bisect_right(self.firsts[table], row) - 1]
+        at = row - source.first
+        place = f"row {at}" if source.rowids is None else f"rowid {source.rowids[at]}"
+        return f"{source.relation.words()} {place}"
 
     def tally(self) -> Dict[int, int]:
         """The number of findings of each code that has any."""
@@ -53,7 +57,8 @@ def accepted(path: str, exported: geopackage.Exported, say: Callable[[str], None
     answer = judge.judged(exported.octets)
     if isinstance(answer, judge.Refusal):
         raise Trouble(f"{path}: {refusal_words(answer)}")
-    return Judged(path, Listing(exported.octets), answer, exported.sources, exported.notes)
+    firsts = {table: [source.first for source in sources] for table, sources in exported.sources.items()}
+    return Judged(path, Listing(exported.octets), answer, exported.sources, firsts, exported.notes)
 
 
 def refusal_words(refusal: judge.Refusal) -> str:

@@ -26,7 +26,11 @@ def shown(text: Optional[bytes]) -> str:
         return "NULL"
     letters = text.decode("utf-8", "backslashreplace")
     more = f"… ({len(text)} octets)" if len(letters) > LONGEST_SHOWN else ""
-    return '"' + "".join(printable(letter) for letter in letters[:LONGEST_SHOWN]) + '"' + more
+    start = letters[:LONGEST_SHOWN]
+    # Nearly every text is plain, and in a long report they are many.
+    if not start.isprintable() or '"' in start or "\\" in start:
+        start = "".join(map(printable, start))
+    return f'"{start}"{more}'
 
 
 def printable(letter: str) -> str:

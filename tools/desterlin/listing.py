@@ -3,6 +3,7 @@
 from __future__ import annotations
 
 import enum
+import itertools
 import struct
 from typing import Dict, Iterator, List, NamedTuple, Optional, Sequence, Tuple, Union
 
@@ -95,6 +96,9 @@ class Table:
         self.most = most
         self.fields = [Field(name, kind) for name, kind in zip(row.__annotations__, kinds)]
         self.form = struct.Struct("<" + "".join(FORMS[kind] for kind in kinds))
+        # Each field's kind, and where its first number stands among those that the form unpacks.
+        places = itertools.accumulate((len(FORMS[kind]) for kind in kinds), initial=0)
+        self.places = list(zip(kinds, places))
 
 
 TEXT, WHOLE, DOUBLE = Kind.TEXT, Kind.WHOLE, Kind.DOUBLE
@@ -183,18 +187,16 @@ class Listing:
 
     def decoded(self, table: Table, words: Sequence[Union[int, float]]) -> List[Value]:
         values: List[Value] = []
-        at = 0
-        for field in table.fields:
-            if field.kind in (Kind.TEXT, Kind.TEXT_OR_NULL):
-                start, length = int(words[at]), int(words[at + 1])
-                values.append(None if (start, length) == NULL else self.names[start:start + length])
-                at += 2
-            elif field.kind is Kind.WHOLE_OR_NULL:
-                values.append(words[at] if words[at + 1] else None)
-                at += 3
-            else:
+        for kind, at in table.places:
+            if kind is WHOLE or kind is DOUBLE:
                 values.append(words[at])
-                at += 1
+            elif kind is Kind.WHOLE_OR_NULL:
+                values.append(words[at] if words[at + 1] else None)
+            elif words[at:at + 2] == NULL:
+                values.append(None)
+            else:
+                start = int(words[at])
+                values.append(self.names[start:start + int(words[at + 1])])
         return values
 
     def references(self) -> List[Reference]:

@@ -26,14 +26,18 @@ class Known:
         self.sets = listing.sets()
         self.matrices = listing.matrices()
         self.extensions = listing.extensions()
+        self.data_types: Dict[bytes, List[bytes]] = {}
+        for content in self.contents:
+            self.data_types.setdefault(content.table_name, []).append(content.data_type)
         self.first_set: Dict[bytes, MatrixSet] = {}
         for row in self.sets:
             self.first_set.setdefault(row.table_name, row)
         self.first_matrix: Dict[Tuple[bytes, int], int] = {}
-        self.zooms: Dict[bytes, List[int]] = {}
+        self.zooms: Dict[bytes, Tuple[int, int]] = {}
         for at, matrix in enumerate(self.matrices):
             self.first_matrix.setdefault((matrix.table_name, matrix.zoom_level), at)
-            self.zooms.setdefault(matrix.table_name, []).append(matrix.zoom_level)
+            least, most = self.zooms.get(matrix.table_name, (matrix.zoom_level, matrix.zoom_level))
+            self.zooms[matrix.table_name] = min(least, matrix.zoom_level), max(most, matrix.zoom_level)
 
 
 class Found(NamedTuple):
@@ -113,7 +117,7 @@ def no_set(known: Known, found: Found) -> str:
 
 def unlisted(known: Known, name: bytes) -> str:
     """Why a name is no tiles name."""
-    types = [row.data_type for row in known.contents if row.table_name == name]
+    types = known.data_types.get(name)
     return f"{shown(name)} is " + (f"in contents as {', '.join(map(shown, types))}" if types else "not in contents")
 
 
@@ -230,8 +234,8 @@ def doubled_tile(known: Known, found: Found) -> str:
 
 def tile_off_levels(known: Known, found: Found) -> str:
     tile = known.tile(found.row)
-    zooms = known.zooms[tile.table_name]
-    return f"{address(tile)}: {shown(tile.table_name)} has zooms {min(zooms)} to {max(zooms)}"
+    least, most = known.zooms[tile.table_name]
+    return f"{address(tile)}: {shown(tile.table_name)} has zooms {least} to {most}"
 
 
 def tile_off_matrix(places: str, side: str) -> Words:
