@@ -19,8 +19,8 @@ pub extern "C" fn desterlin_report(
     let total = a.total;
     let written = a.written;
     report::put_refusal(answer, 0, a.number, a.table, a.row);
-    report::put_word(answer, 12, total);
-    report::put_word(answer, 16, written);
+    octets::put_word(answer, 12, total);
+    octets::put_word(answer, 16, written);
     1
 }
 

@@ -1,10 +1,11 @@
--- Each kind of key: a row that answers to a key has it (sound), a row answers to its own (own), and the code reads it (read).
+-- Keys of every kind: a row that answers to a key has it (sound), and a row of a sure kind answers to its own (own).
 use Prim.Native.Nat.{ℕ}
-use mathlib.Core.Path.{_≡_, refl, sym, ap}
+use mathlib.Core.Path.{_≡_, refl, sym, ap, _∙_, subst}
 use mathlib.Core.List.{List}
-use mathlib.Core.Bool.{Bool, true, _&&_, and-eq-true-iff}
+use mathlib.Core.Bool.{Bool, true, not, _&&_, and-eq-true-iff, false≢true}
 use lib.IntN.{ℤ, pos, negsuc}
 use borrow.Author.Tests.{eq-eqb}
+use lib.Signed.{ltZ}
 use Rattle.octets.specs.Numbers.{signed, eqZ}
 use Rattle.octets.specs.NumberLaws.{eqZ-true}
 use Rattle.octets.specs.Texts.{same, spell}
@@ -13,89 +14,103 @@ use Rattle.pack.specs.declared.ContentsRow.{ContentsRow}
 use Rattle.pack.specs.declared.SetRow.{SetRow}
 use Rattle.pack.specs.declared.MatrixRow.{MatrixRow}
 use Rattle.pack.specs.declared.TileRow.{TileRow}
-use Rattle.pack.specs.Tables.{contentsRow, setRow, matrixRow, tileRow, contentOf, setOf, matrixOf, tileOf, contentsOf, matricesOf, tilesOf}
+use Rattle.pack.specs.Tables.{contentsRow, setRow, matrixRow, tileRow, contentOf, setOf, matrixOf, tileOf, contentsOf, setsOf, matricesOf, tilesOf}
 use Rattle.spelling.specs.Words.{tiles}
 use Rattle.rules.specs.Contents.{ofType, givesTiles, setNamed}
-use Rattle.rules.specs.Matrices.{matrixNamed, atLevel, tileNamed}
+use Rattle.rules.specs.Matrices.{matrixNamed, atLevel, tileNamed, finer, breaks531}
 use Rattle.rules.specs.Tiles.{atAddress}
-use Rattle.index.specs.Keys.{addressOf, tileKey, tileAnswers, matrixKey, matrixAnswers, contentKey, contentAnswers, tileNameKey, tileNameAnswers, setKey, setAnswers}
+use Rattle.index.specs.declared.Kind.{Kind}
+use Rattle.index.specs.declared.Kind.the-variants as kind
+use Rattle.index.specs.declared.Key.{Key}
+use Rattle.index.specs.declared.Key.the-variants as key
+use Rattle.index.specs.Keys.{keyOf, answers, sure, kindOf, meaning, addressOf}
 
 eqZ-refl : (z : ℤ) → eqZ z z ≡ true
 eqZ-refl (pos a) = eq-eqb a a refl
 eqZ-refl (negsuc a) = eq-eqb a a refl
 
 module _ (t names : List ℕ) where
-  pub tile-sound : (a : (List ℕ × ℤ × ℤ × ℤ)) (k : ℕ) → tileAnswers t names a k ≡ true → a ≡ tileKey t names k
-  unfolding atAddress
-  tile-sound a k e =
+  -- a key that is a name alone
+  by-name : {x y : List ℕ} → x ≡ y → _≡_ {A = List ℕ × ℤ × ℤ × ℤ} (x, pos 0, pos 0, pos 0) (y, pos 0, pos 0, pos 0)
+  by-name e i = (e i, pos 0, pos 0, pos 0)
+
+  sound : (a : Key) (k : ℕ) → answers (kindOf a) t names (meaning names a) k ≡ true → meaning names a ≡ keyOf (kindOf a) t names k
+  unfolding atAddress tileNamed atLevel matrixNamed givesTiles setNamed
+  sound (key.Address x z c r) k e =
       let q = tilesOf t names .row k in
+      let a = meaning names (key.Address x z c r) in
       let f = and-eq-true-iff (same (a .0) (q .name)) (eqZ (a .1) (q .zoom) && (eqZ (a .2) (q .column) && eqZ (a .3) (q .row))) .0 e in
       let g = and-eq-true-iff (eqZ (a .1) (q .zoom)) (eqZ (a .2) (q .column) && eqZ (a .3) (q .row)) .0 (f .1) in
       let h = and-eq-true-iff (eqZ (a .2) (q .column)) (eqZ (a .3) (q .row)) .0 (g .1) in
-      let x : a .0 ≡ q .name = same-equal _ _ (f .0) in
-      let z : a .1 ≡ q .zoom = eqZ-true _ _ (g .0) in
-      let c : a .2 ≡ q .column = eqZ-true _ _ (h .0) in
-      let r : a .3 ≡ q .row = eqZ-true _ _ (h .1) in
-      λ i. (x i, z i, c i, r i)
-
-  pub tile-own : (k : ℕ) → tileAnswers t names (tileKey t names k) k ≡ true
-  unfolding atAddress
-  tile-own k = let q = tilesOf t names .row k in simp (sym (same-refl (q .name)), eqZ-refl (q .zoom), eqZ-refl (q .column), eqZ-refl (q .row))
-
-  pub tile-read : (k : ℕ) (q : TileRow) → q ≡ tileRow t k → addressOf names q ≡ tileKey t names k
-  unfolding tileOf
-  tile-read k q e = ap (addressOf names) e
-
-  pub matrix-sound : (a : (List ℕ × ℤ)) (k : ℕ) → matrixAnswers t names a k ≡ true → a ≡ matrixKey t names k
-  unfolding atLevel matrixNamed
-  matrix-sound a k e =
+      let x' : a .0 ≡ q .name = same-equal _ _ (f .0) in
+      let z' : a .1 ≡ q .zoom = eqZ-true _ _ (g .0) in
+      let c' : a .2 ≡ q .column = eqZ-true _ _ (h .0) in
+      let r' : a .3 ≡ q .row = eqZ-true _ _ (h .1) in
+      λ i. (x' i, z' i, c' i, r' i)
+  sound (key.TileName x) k e = by-name (same-equal _ _ e)
+  sound (key.Level x z) k e =
       let q = matricesOf t names .row k in
+      let a = meaning names (key.Level x z) in
       let f = and-eq-true-iff (same (a .0) (q .name)) (eqZ (a .1) (q .zoom)) .0 e in
-      let x : a .0 ≡ q .name = same-equal _ _ (f .0) in
-      let z : a .1 ≡ q .zoom = eqZ-true _ _ (f .1) in
-      λ i. (x i, z i)
+      let x' : a .0 ≡ q .name = same-equal _ _ (f .0) in
+      let z' : a .1 ≡ q .zoom = eqZ-true _ _ (f .1) in
+      λ i. (x' i, z' i, pos 0, pos 0)
+  sound (key.MatrixName x) k e = by-name (same-equal _ _ e)
+  sound (key.TilesName x) k e =
+      let q = contentsOf t names .row k in by-name (same-equal _ _ (and-eq-true-iff (same (meaning names (key.TilesName x) .0) (q .name)) (ofType tiles q) .0 e .0))
+  sound (key.SetName x) k e = by-name (same-equal _ _ e)
 
-  pub matrix-own : (k : ℕ) → matrixAnswers t names (matrixKey t names k) k ≡ true
-  unfolding atLevel matrixNamed
-  matrix-own k = let q = matricesOf t names .row k in simp (sym (same-refl (q .name)), eqZ-refl (q .zoom))
+  -- where the kind is known
+  pub key-sound : (s : Kind) (a : Key) → kindOf a ≡ s → (k : ℕ) → answers s t names (meaning names a) k ≡ true → meaning names a ≡ keyOf s t names k
+  key-sound s a e k f = rw e at (sound a k (rw (← e) at f))
 
-  pub matrix-read : (k : ℕ) (q : MatrixRow) → q ≡ matrixRow t k → (spell names (q .name), signed (q .zoom)) ≡ matrixKey t names k
-  unfolding matrixOf
-  matrix-read k q e = ap (λ (r : MatrixRow). (spell names (r .name), signed (r .zoom))) e
+  own : (s : Kind) → sure s ≡ true → (k : ℕ) → answers s t names (keyOf s t names k) k ≡ true
+  unfolding atAddress tileNamed atLevel matrixNamed setNamed
+  own kind.Address o k = let q = tilesOf t names .row k in simp (sym (same-refl (q .name)), eqZ-refl (q .zoom), eqZ-refl (q .column), eqZ-refl (q .row))
+  own kind.TileName o k = sym (same-refl (tilesOf t names .row k .name))
+  own kind.Level o k = let q = matricesOf t names .row k in simp (sym (same-refl (q .name)), eqZ-refl (q .zoom))
+  own kind.MatrixName o k = sym (same-refl (matricesOf t names .row k .name))
+  own kind.TilesName o k = absurd (false≢true o)
+  own kind.SetName o k = sym (same-refl (setsOf t names .row k .name))
 
-  pub content-sound : (x : List ℕ) (k : ℕ) → contentAnswers t names x k ≡ true → x ≡ contentKey t names k
-  unfolding givesTiles
-  content-sound x k e = let q = contentsOf t names .row k in same-equal _ _ (and-eq-true-iff (same x (q .name)) (ofType tiles q) .0 e .0)
+  -- b is what was told of its kind
+  pub key-own : (a : Key) (s : Kind) (k : ℕ) (b : Bool) → meaning names a ≡ keyOf (kindOf a) t names k → s ≡ kindOf a → b ≡ sure s → b ≡ true
+      → true ≡ answers (kindOf a) t names (meaning names a) k
+  key-own a s k b e q f o = sym (rw e (own (kindOf a) (rw q at (sym f ∙ o)) k))
 
-  pub content-own : (k : ℕ) (q : ContentsRow) (b : Bool) → q ≡ contentsRow t k → b ≡ givesTiles (spell names (q .name)) (contentOf names q)
-      → contentAnswers t names (contentKey t names k) k ≡ b
-  unfolding contentOf
-  content-own k q b e f = sym (rw e at f)
+  -- the code reads the key of row k
+  module _ (k : ℕ) where
+    pub read-address : (q : TileRow) → q ≡ tileRow t k → meaning names (key.Address (q .name) (q .zoom) (q .column) (q .row)) ≡ keyOf kind.Address t names k
+    unfolding tileOf
+    read-address q e = ap (λ (r : TileRow). meaning names (key.Address (r .name) (r .zoom) (r .column) (r .row))) e
 
-  pub content-read : (k : ℕ) (q : ContentsRow) → q ≡ contentsRow t k → spell names (q .name) ≡ contentKey t names k
-  unfolding contentOf
-  content-read k q e = ap (λ (r : ContentsRow). spell names (r .name)) e
+    -- and row k answers to it
+    pub address-own : (q : TileRow) → q ≡ tileRow t k → answers kind.Address t names (addressOf names q) k ≡ true
+    address-own q e = subst (λ (a : List ℕ × ℤ × ℤ × ℤ). answers kind.Address t names a k ≡ true) (sym (read-address q e)) (own kind.Address refl k)
 
-  pub tile-name-sound : (x : List ℕ) (k : ℕ) → tileNameAnswers t names x k ≡ true → x ≡ tileNameKey t names k
-  unfolding tileNamed
-  tile-name-sound x k e = same-equal x (tileNameKey t names k) e
+    pub read-tile-name : (q : TileRow) → q ≡ tileRow t k → meaning names (key.TileName (q .name)) ≡ keyOf kind.TileName t names k
+    unfolding tileOf
+    read-tile-name q e = ap (λ (r : TileRow). meaning names (key.TileName (r .name))) e
 
-  pub tile-name-own : (k : ℕ) → tileNameAnswers t names (tileNameKey t names k) k ≡ true
-  unfolding tileNamed
-  tile-name-own k = sym (same-refl (tileNameKey t names k))
+    pub read-level : (q : MatrixRow) → q ≡ matrixRow t k → meaning names (key.Level (q .name) (q .zoom)) ≡ keyOf kind.Level t names k
+    unfolding matrixOf
+    read-level q e = ap (λ (r : MatrixRow). meaning names (key.Level (r .name) (r .zoom))) e
 
-  pub tile-name-read : (k : ℕ) (q : TileRow) → q ≡ tileRow t k → spell names (q .name) ≡ tileNameKey t names k
-  unfolding tileOf
-  tile-name-read k q e = ap (λ (r : TileRow). spell names (r .name)) e
+    pub read-matrix-name : (q : MatrixRow) → q ≡ matrixRow t k → meaning names (key.MatrixName (q .name)) ≡ keyOf kind.MatrixName t names k
+    unfolding matrixOf
+    read-matrix-name q e = ap (λ (r : MatrixRow). meaning names (key.MatrixName (r .name))) e
 
-  pub set-sound : (x : List ℕ) (k : ℕ) → setAnswers t names x k ≡ true → x ≡ setKey t names k
-  unfolding setNamed
-  set-sound x k e = same-equal x (setKey t names k) e
+    pub read-tiles-name : (q : ContentsRow) → q ≡ contentsRow t k → meaning names (key.TilesName (q .name)) ≡ keyOf kind.TilesName t names k
+    unfolding contentOf
+    read-tiles-name q e = ap (λ (r : ContentsRow). meaning names (key.TilesName (r .name))) e
 
-  pub set-own : (k : ℕ) → setAnswers t names (setKey t names k) k ≡ true
-  unfolding setNamed
-  set-own k = sym (same-refl (setKey t names k))
+    pub read-set-name : (q : SetRow) → q ≡ setRow t k → meaning names (key.SetName (q .name)) ≡ keyOf kind.SetName t names k
+    unfolding setOf
+    read-set-name q e = ap (λ (r : SetRow). meaning names (key.SetName (r .name))) e
 
-  pub set-read : (k : ℕ) (q : SetRow) → q ≡ setRow t k → spell names (q .name) ≡ setKey t names k
-  unfolding setOf
-  set-read k q e = ap (λ (r : SetRow). spell names (r .name)) e
+  -- a row that breaks 531 with a row has its name
+  pub named-531 : (m : MatrixRow) (k : ℕ) → breaks531 (matrixOf names m) (matricesOf t names .row k) ≡ true → meaning names (key.MatrixName (m .name)) ≡ keyOf kind.MatrixName t names k
+  unfolding breaks531 matrixNamed matrixOf
+  named-531 m k e =
+      let q = matricesOf t names .row k in
+      by-name (same-equal _ _ (and-eq-true-iff (same (spell names (m .name)) (q .name)) (ltZ (q .zoom) (signed (m .zoom)) && not (finer (matrixOf names m) q)) .0 e .0))

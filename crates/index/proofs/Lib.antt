@@ -2,3 +2,4 @@ pub mod Words
 pub mod Walks
 pub mod Entering
 pub mod KeyLaws
+pub mod Shelving

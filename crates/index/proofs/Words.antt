@@ -11,9 +11,9 @@ use lib.Dec.{ltb}
 use lib.ListN.{length, getD, set, length-set}
 use lib.Seq.{getD-set-same, getD-set-other}
 use Rattle.octets.specs.Octets.{le32}
-use Rattle.index.specs.Chains.{isEntry, Index}
-use Rattle.index.specs.ChainLaws.{by-test, newest-le, index-none, index-old, index-new}
-use Rattle.index.specs.Work.{wordAt, putWord, pushed, Indexed, headsFor, Ready}
+use Rattle.index.specs.Chains.{isEntry, newest, marked, Index}
+use Rattle.index.specs.ChainLaws.{by-test, newest-le, index-none, index-old, index-new, marked-small}
+use Rattle.index.specs.Work.{wordAt, putWord, printOf, pushed, Indexed, headsFor, Ready}
 
 pub length-put : (w : List ℕ) (j x : ℕ) → length (putWord w j x) ≡ length w
 unfolding putWord
@@ -89,62 +89,72 @@ word-zero w h m b l z =
     (rw (z (4 * h) (omega arith), z (4 * h + 1) (omega arith), z (4 * h + 2) (omega arith), z (4 * h + 3) (omega arith)))
 
 -- ---- the index in these words
-module _ (fits : ℕ → ℕ → Bool) (hash : ℕ → ℕ) (w : List ℕ) (m rows : ℕ) where
-  pub indexed-none : 0 < m → 4 * (m + rows) ≤ length w → rows < 4294967295 → ((h : ℕ) → h < m → wordAt w h ≡ 0) → Indexed fits hash w m rows 0
-  indexed-none s r l z = record { some = s; room = r; small = l; index = index-none fits hash m (wordAt w) (λ k. wordAt w (m + k)) z }
+module _ (fits : ℕ → ℕ → Bool) (hash print : ℕ → ℕ) (w : List ℕ) (m rows : ℕ) where
+  pub indexed-none : 0 < m → m < 4294967296 → 4 * (m + rows) ≤ length w → rows < 524287 → ((h : ℕ) → h < m → wordAt w h ≡ 0) → Indexed fits hash print w m rows 0
+  indexed-none s f r l z = record { some = s; few = f; room = r; small = l; index = index-none fits hash print m (wordAt w) (λ k. wordAt w (m + k)) z }
 
-  module _ (i : ℕ) (x : Indexed fits hash w m rows i) where
-    pub indexed-old : isEntry fits i ≡ false → Indexed fits hash w m rows (i + 1)
+  module _ (i : ℕ) (x : Indexed fits hash print w m rows i) where
+    pub indexed-old : isEntry fits i ≡ false → Indexed fits hash print w m rows (i + 1)
     indexed-old o = record {
       some = x .some;
+      few = x .few;
       room = x .room;
       small = x .small;
-      index = rw add-one (index-old fits hash m (wordAt w) (λ k. wordAt w (m + k)) i (x .index) o);
+      index = rw add-one (index-old fits hash print m (wordAt w) (λ k. wordAt w (m + k)) i (x .index) o);
     }
 
-    pub indexed-new : i < rows → isEntry fits i ≡ true → (h : ℕ) → h ≡ hash i → h < m → Indexed fits hash (pushed w m h i) m rows (i + 1)
-    unfolding pushed
-    indexed-new c o h e l = record {
+    -- a head is a u32
+    head-small : ((k : ℕ) → print k < 8192) → i < rows → (h : ℕ) → h < m → wordAt w h < 4294967296
+    head-small b c h l = rw (x .index .head h l) (marked-small print (newest fits hash h i) (omega (arith, newest-le fits hash h i, x .small)) b)
+
+    pub indexed-new : ((k : ℕ) → print k < 8192) → i < rows → isEntry fits i ≡ true → (h y : ℕ) → h ≡ hash i → printOf y ≡ print i → h < m
+        → Indexed fits hash print (pushed w m h y i) m rows (i + 1)
+    unfolding pushed marked
+    indexed-new pb c o h y e p l = record {
       some = x .some;
+      few = x .few;
       room = simp length-put (x .room);
       small = x .small;
-      index = subst (λ (q : ℕ). Index fits hash m (wordAt w2) (λ k. wordAt w2 (m + k)) q) (sym (add-one i))
-          (index-new fits hash m (wordAt w) (λ k. wordAt w (m + k)) (wordAt w2) (λ k. wordAt w2 (m + k)) i
+      index = subst (λ (q : ℕ). Index fits hash print m (wordAt w2) (λ k. wordAt w2 (m + k)) q) (sym (add-one i))
+          (index-new fits hash print m (wordAt w) (λ k. wordAt w (m + k)) (wordAt w2) (λ k. wordAt w2 (m + k)) i
           (x .index) o (rw e at l)
-          (rw (← e) (word-same w1 h (i + 1) (simp length-put (omega (arith, x .room))) (omega (arith, x .small)) ∙ add-one i))
-          (λ g b q. word-other w1 h g (i + 1) (λ r. q (r ∙ e)) ∙ word-other w (m + i) g (wordAt w h) (λ r. omega arith))
-          (rw (← e) (word-other w1 h (m + i) (i + 1) (λ r. omega arith) ∙ word-same w (m + i) (wordAt w h) (omega (arith, x .room)) (omega (arith, x .small, x .index .head h l, newest-le fits hash h i))))
-          (λ k b. word-other w1 h (m + k) (i + 1) (λ r. omega arith) ∙ word-other w (m + i) (m + k) (wordAt w h) (λ r. omega arith)));
+          (rw (← e) (word-same w1 h v (simp length-put (omega (arith, x .room))) (omega (arith, x .small, pb i, p)) ∙ omega (arith, p)))
+          (λ g b q. word-other w1 h g v (λ r. q (r ∙ e)) ∙ word-other w (m + i) g (wordAt w h) (λ r. omega arith))
+          (rw (← e) (word-other w1 h (m + i) v (λ r. omega arith) ∙ word-same w (m + i) (wordAt w h) (omega (arith, x .room)) (head-small pb c h l)))
+          (λ k b. word-other w1 h (m + k) v (λ r. omega arith) ∙ word-other w (m + i) (m + k) (wordAt w h) (λ r. omega arith)));
     }
       where
+        v : ℕ
+        v = i + 1 + 524288 * printOf y
+
         w1 : List ℕ
         w1 = putWord w (m + i) (wordAt w h)
 
         w2 : List ℕ
-        w2 = putWord w1 h (i + 1)
+        w2 = putWord w1 h v
 
 -- ---- how many heads
--- where there are some, they and the links have room, and a row and one is a u32
-pub heads-fit : (words rows m : ℕ) → m ≡ headsFor words rows → (m ≡ 0 → ⊥) → (m + rows ≤ words) × (rows < 4294967295)
+-- where there are some, they and the links have room, and a row and one has 19 bits
+pub heads-fit : (words rows m : ℕ) → m ≡ headsFor words rows → (m ≡ 0 → ⊥) → (m + rows ≤ words) × (rows < 524287) × (m ≤ rows + 16384)
 unfolding headsFor
 heads-fit words rows m e s =
-    by-test (ltb rows 4294967295)
+    by-test (ltb rows 524287)
     (λ a.
     by-test (ltb rows words)
     (λ b.
-    by-test (ltb (words - rows) (rows + 64))
-    (λ c. let q = simp (a, b, c) at e in (omega (arith, ltb-true rows words b), ltb-true rows 4294967295 a))
-    (λ c. let q = simp (a, b, c) at e in (omega (arith, ltb-true rows words b, ltb-false (words - rows) (rows + 64) c), ltb-true rows 4294967295 a)))
+    by-test (ltb (words - rows) (rows + 16384))
+    (λ c. let q = simp (a, b, c) at e in (omega (arith, ltb-true rows words b), ltb-true rows 524287 a, omega (arith, ltb-true (words - rows) (rows + 16384) c)))
+    (λ c. let q = simp (a, b, c) at e in (omega (arith, ltb-true rows words b, ltb-false (words - rows) (rows + 16384) c), ltb-true rows 524287 a, omega arith)))
     (λ b. absurd (s (simp (a, b) at e))))
     (λ a. absurd (s (simp a at e)))
 
 module _ (w : List ℕ) (m rows : ℕ) where
   -- no head, no index
   pub ready-none : m ≡ 0 → Ready w m rows
-  ready-none e = record { there = λ fits hash s. absurd (s e) }
+  ready-none e = record { there = λ fits hash print s. absurd (s e) }
 
   -- every head is 0
   pub ready-clear : (n : ℕ) → length w ≡ n → m ≡ headsFor (n / 4) rows → ((h : ℕ) → h < m → wordAt w h ≡ 0) → Ready w m rows
   ready-clear n l e z = record {
-    there = λ fits hash s. let f = heads-fit (n / 4) rows m e s in indexed-none fits hash w m rows (omega arith) (omega arith) (f .1) z;
+    there = λ fits hash print s. let f = heads-fit (n / 4) rows m e s in indexed-none fits hash print w m rows (omega arith) (omega arith) (omega arith) (f .1) z;
   }

@@ -1,5 +1,5 @@
 -- The laws of a chained index, for any `fits` and any `hash`: what a walk finds, and how a row is entered.
-use Prim.Native.Nat.{ℕ, zero, suc, _<_, _≤_}
+use Prim.Native.Nat.{ℕ, zero, suc, _+_, _-_, _*_, _/_, _%_, _<_, _≤_}
 use mathlib.Core.Path.{_≡_, refl, sym, ap, _∙_}
 use mathlib.Core.Bool.{Bool, true, false, cond, _&&_, false≢true, and-eq-true-iff}
 use mathlib.Core.Logic.{⊎-elim}
@@ -9,7 +9,7 @@ use borrow.Author.Tests.{eqb-true, eqb-false, eq-eqb, ltb-true, ltb-false}
 use lib.Dec.{eqb, ltb}
 use Rattle.octets.specs.Search.{first}
 use Rattle.octets.specs.SearchLaws.{Lowest, first-lowest}
-use Rattle.index.specs.Chains.{isEntry, newest, Index, Asks, Walk}
+use Rattle.index.specs.Chains.{isEntry, newest, marked, Index, Asks, Walk}
 
 -- by cases on a test
 pub by-test : {A : Type 0} (b : Bool) → (b ≡ true → A) → (b ≡ false → A) → A
@@ -87,7 +87,7 @@ module _ (fits : ℕ → ℕ → Bool) (hash : ℕ → ℕ) (h : ℕ) where
       (λ e. omega (arith, newest-hit n e))
       (λ e. omega (arith, newest-miss n e, newest-le n))
 
-  newest-newest : (n : ℕ) → newest fits hash h (newest fits hash h n) ≡ newest fits hash h n
+  pub newest-newest : (n : ℕ) → newest fits hash h (newest fits hash h n) ≡ newest fits hash h n
   newest-newest zero = unfold newest in refl
   newest-newest (suc n) =
       by-test (isEntry fits n && eqb (hash n) h)
@@ -95,7 +95,7 @@ module _ (fits : ℕ → ℕ → Bool) (hash : ℕ → ℕ) (h : ℕ) where
       (λ e. rw (newest-miss n e) (newest-newest n))
 
   -- a row that is entered and has the hash is not above it
-  entry-below : (k n : ℕ) → k < n → isEntry fits k ≡ true → hash k ≡ h → k < newest fits hash h n
+  pub entry-below : (k n : ℕ) → k < n → isEntry fits k ≡ true → hash k ≡ h → k < newest fits hash h n
   entry-below k zero l e q = absurd (omega arith)
   entry-below k (suc n) l e q =
       by-test (isEntry fits n && eqb (hash n) h)
@@ -111,10 +111,10 @@ module _ (fits : ℕ → ℕ → Bool) (hash : ℕ → ℕ) (h : ℕ) where
     on-chain : (isEntry fits k && eqb (hash k) h) ≡ true
     on-chain = by-test (isEntry fits k && eqb (hash k) h) (λ t. t) (λ f. absurd (omega (arith, newest-miss k f, newest-le k)))
 
-    chain-entry : isEntry fits k ≡ true
+    pub chain-entry : isEntry fits k ≡ true
     chain-entry = and-eq-true-iff (isEntry fits k) (eqb (hash k) h) .0 on-chain .0
 
-    chain-hash : hash k ≡ h
+    pub chain-hash : hash k ≡ h
     chain-hash = eqb-true (hash k) h (and-eq-true-iff (isEntry fits k) (eqb (hash k) h) .0 on-chain .1)
 
 -- ---- a walk
@@ -155,6 +155,10 @@ module _ (fits : ℕ → ℕ → Bool) (hash : ℕ → ℕ) (test : ℕ → Bool
       let a : Lowest (fits k) (suc k) k = entry-lowest fits k (chain-entry fits hash h k (rw s at (w .chain))) in
       sym (lowest-is test n k (record { most = omega (arith, w .low); below = λ i b. sym (f .alike k t i) ∙ a .below i b; here = λ _. t }))
 
+  -- that row is entered
+  pub walk-entry : (j k : ℕ) → j ≡ suc k → Walk fits hash test h n j → isEntry fits k ≡ true
+  walk-entry j k s w = chain-entry fits hash h k (rw s at (w .chain))
+
   -- it fails, and v is what next has for it
   pub walk-on : (j k v : ℕ) → j ≡ suc k → Walk fits hash test h n j → test k ≡ false → (isEntry fits k ≡ true → v ≡ newest fits hash (hash k) k)
       → Walk fits hash test h n v × (v < j)
@@ -177,15 +181,15 @@ module _ (fits : ℕ → ℕ → Bool) (hash : ℕ → ℕ) (test : ℕ → Bool
       all k l = first-lowest test n .below k (omega (arith, none))
 
 -- ---- the index
-module _ (fits : ℕ → ℕ → Bool) (hash : ℕ → ℕ) (m : ℕ) (heads next : ℕ → ℕ) where
-  pub index-none : ((h : ℕ) → h < m → heads h ≡ 0) → Index fits hash m heads next 0
-  unfolding newest
+module _ (fits : ℕ → ℕ → Bool) (hash print : ℕ → ℕ) (m : ℕ) (heads next : ℕ → ℕ) where
+  pub index-none : ((h : ℕ) → h < m → heads h ≡ 0) → Index fits hash print m heads next 0
+  unfolding newest marked
   index-none z = record { head = z; link = λ k h. absurd (omega arith) }
 
   -- row n is not entered
-  pub index-old : (n : ℕ) → Index fits hash m heads next n → isEntry fits n ≡ false → Index fits hash m heads next (suc n)
+  pub index-old : (n : ℕ) → Index fits hash print m heads next n → isEntry fits n ≡ false → Index fits hash print m heads next (suc n)
   index-old n i o = record {
-    head = λ h b. i .head h b ∙ sym (newest-miss fits hash h n (ap (λ (t : Bool). t && eqb (hash n) h) o));
+    head = λ h b. i .head h b ∙ ap (marked print) (sym (newest-miss fits hash h n (ap (λ (t : Bool). t && eqb (hash n) h) o)));
     link = λ k b w. i .link k (before k b w) w;
   }
     where
@@ -193,21 +197,48 @@ module _ (fits : ℕ → ℕ → Bool) (hash : ℕ → ℕ) (m : ℕ) (heads nex
       before k b w = ⊎-elim (λ e. absurd (differ (isEntry fits) k n w o e)) (λ l. l) (eq-or-lt-of-le (omega arith))
 
   -- row n is: it is the head of its hash, and is linked to the head before it
-  pub index-new : (heads' next' : ℕ → ℕ) (n : ℕ) → Index fits hash m heads next n → isEntry fits n ≡ true → hash n < m
-      → heads' (hash n) ≡ suc n → ((h : ℕ) → h < m → (h ≡ hash n → ⊥) → heads' h ≡ heads h)
+  pub index-new : (heads' next' : ℕ → ℕ) (n : ℕ) → Index fits hash print m heads next n → isEntry fits n ≡ true → hash n < m
+      → heads' (hash n) ≡ marked print (suc n) → ((h : ℕ) → h < m → (h ≡ hash n → ⊥) → heads' h ≡ heads h)
       → next' n ≡ heads (hash n) → ((k : ℕ) → k < n → next' k ≡ next k)
-      → Index fits hash m heads' next' (suc n)
+      → Index fits hash print m heads' next' (suc n)
   index-new heads' next' n i w b h-n h-other n-n n-other = record { head = head'; link = link' }
     where
-      head' : (h : ℕ) → h < m → heads' h ≡ newest fits hash h (suc n)
+      head' : (h : ℕ) → h < m → heads' h ≡ marked print (newest fits hash h (suc n))
       head' h l =
           by-test (eqb (hash n) h)
-          (λ t. rw (← eqb-true (hash n) h t) h-n ∙ sym (newest-hit fits hash h n (rw (w, t))))
-          (λ t. h-other h l (λ q. eqb-false (hash n) h t (sym q)) ∙ i .head h l ∙ sym (newest-miss fits hash h n (rw (w, t))))
+          (λ t. rw (← eqb-true (hash n) h t) h-n ∙ ap (marked print) (sym (newest-hit fits hash h n (rw (w, t)))))
+          (λ t. h-other h l (λ q. eqb-false (hash n) h t (sym q)) ∙ i .head h l ∙ ap (marked print) (sym (newest-miss fits hash h n (rw (w, t)))))
 
-      link' : (k : ℕ) → k < suc n → isEntry fits k ≡ true → next' k ≡ newest fits hash (hash k) k
+      link' : (k : ℕ) → k < suc n → isEntry fits k ≡ true → next' k ≡ marked print (newest fits hash (hash k) k)
       link' k l wk =
           ⊎-elim
           (λ e. rw e (n-n ∙ i .head (hash n) b))
           (λ l'. n-other k l' ∙ i .link k l' wk)
           (eq-or-lt-of-le {n = k} {m = n} (omega arith))
+
+-- ---- what is stored of a row
+module _ (print : ℕ → ℕ) where
+  marked-some : (k : ℕ) → marked print (suc k) ≡ suc k + 524288 * print k
+  unfolding marked
+  marked-some k = refl
+
+  pub marked-zero : marked print 0 ≡ 0
+  unfolding marked
+  marked-zero = refl
+
+  -- what is 0 is none
+  pub marked-none : (j : ℕ) → marked print j ≡ 0 → j ≡ 0
+  marked-none zero e = refl
+  marked-none (suc k) e = absurd (omega (arith, marked-some k))
+
+  pub marked-row : (j x : ℕ) → x ≡ marked print j → j ≤ 524287 → x % 524288 ≡ j
+  marked-row zero x e l = omega (arith, e ∙ marked-zero)
+  marked-row (suc k) x e l = omega (arith, marked-some k)
+
+  pub marked-print : (k x : ℕ) → x ≡ marked print (suc k) → suc k ≤ 524287 → x / 524288 ≡ print k
+  marked-print k x e l = omega (arith, marked-some k)
+
+  -- a print of 13 bits: what is stored is a u32
+  pub marked-small : (j : ℕ) → j ≤ 524287 → ((k : ℕ) → print k < 8192) → marked print j < 4294967296
+  marked-small zero l b = omega (arith, marked-zero)
+  marked-small (suc k) l b = omega (arith, marked-some k, b k)

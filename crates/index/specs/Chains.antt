@@ -1,6 +1,6 @@
 -- A chained index of rows by their keys. Rows are numbers, and nothing is known of what they hold:
 -- `fits x k` says that row k answers to the key of row x, and `hash k` is a function of the key of row k.
-use Prim.Native.Nat.{ℕ, zero, suc, _<_, _≤_}
+use Prim.Native.Nat.{ℕ, zero, suc, _+_, _*_, _<_, _≤_}
 use mathlib.Core.Path.{_≡_}
 use mathlib.Core.Bool.{Bool, true, cond, _&&_}
 use lib.Dec.{eqb}
@@ -15,10 +15,15 @@ unfoldable pub newest : (ℕ → ℕ → Bool) → (ℕ → ℕ) → ℕ → ℕ
 newest fits hash h zero = zero
 newest fits hash h (suc n) = cond (isEntry fits n && eqb (hash n) h) (suc n) (newest fits hash h n)
 
+-- a row and one as it is stored: with the print of the row's key, so that few rows are compared in vain. 0 is none
+unfoldable pub marked : (ℕ → ℕ) → ℕ → ℕ
+marked print zero = zero
+marked print (suc k) = suc k + 524288 * print k
+
 -- heads and next index the rows below n: heads has the newest row of each hash below m, and next, for each row entered, the next older one of its hash
-pub record Index (fits : ℕ → ℕ → Bool) (hash : ℕ → ℕ) (m : ℕ) (heads next : ℕ → ℕ) (n : ℕ) : Type 0 where
-  pub head : (h : ℕ) → h < m → heads h ≡ newest fits hash h n
-  pub link : (k : ℕ) → k < n → isEntry fits k ≡ true → next k ≡ newest fits hash (hash k) k
+pub record Index (fits : ℕ → ℕ → Bool) (hash print : ℕ → ℕ) (m : ℕ) (heads next : ℕ → ℕ) (n : ℕ) : Type 0 where
+  pub head : (h : ℕ) → h < m → heads h ≡ marked print (newest fits hash h n)
+  pub link : (k : ℕ) → k < n → isEntry fits k ≡ true → next k ≡ marked print (newest fits hash (hash k) k)
 
 -- a test that asks for one key, of hash h: each row that passes has that hash, and the rows that answer to its key are those that pass
 pub record Asks (fits : ℕ → ℕ → Bool) (hash : ℕ → ℕ) (test : ℕ → Bool) (h : ℕ) : Type 0 where

@@ -1,4 +1,4 @@
--- The hash of a key: a name and three numbers, 0 for those that the key does not have. Nothing rests on how it spreads the keys, only the speed does.
+-- The mix of a key: a name and three numbers, 0 for those that the key does not have. Nothing rests on how it spreads the keys, only the speed does.
 use Prim.Native.Nat.{ℕ, _+_, _-_, _*_, _/_, _%_}
 use mathlib.Core.List.{List}
 use mathlib.Core.Bool.{cond}
@@ -23,13 +23,14 @@ nameMix x =
     cond (leb 8 (length x)) (sumOf (length x) (le64 x 0) (le64 x (length x / 2 - 4)) (le64 x (length x - 8)))
     (cond (leb 4 (length x)) (sumOf (length x) (le32 x 0) 0 (le32 x (length x - 4))) (sumOf (length x) (getD x 0 0) (getD x 1 0) (getD x 2 0)))
 
--- a place among m: a remainder of a u32, which is the quick one
-unfoldable pub placeOf : ℕ → ℕ → ℕ
-placeOf m x = folded x * 33554393 / 65536 % 4294967296 % m
+-- a sum stirred down to a u32, whose upper digits and lower digits both tell keys apart
+unfoldable pub stirred : ℕ → ℕ
+stirred x = folded x * 33554393 / 65536 % 4294967296
 
 -- the 64-bit pattern of a whole number
 abbrev pub pattern : ℤ → ℕ
 pattern z = ofZ w64 z
 
-unfoldable pub keyHash : ℕ → List ℕ → ℤ → ℤ → ℤ → ℕ
-keyHash m x z c r = placeOf m (sumOf (nameMix x) (pattern z) (pattern c) (pattern r))
+-- the mix of a key, from which its place among the heads and its print are taken
+unfoldable pub keyMix : (List ℕ × ℤ × ℤ × ℤ) → ℕ
+keyMix a = stirred (sumOf (nameMix (a .0)) (pattern (a .1)) (pattern (a .2)) (pattern (a .3)))

@@ -9,11 +9,11 @@ use lib.Dec.{ltb}
 use Rattle.octets.specs.Search.{first}
 use Rattle.rules.specs.Judgments.{partner}
 use Rattle.index.specs.ChainLaws.{by-test, first-within}
-use Rattle.index.specs.Work.{Ready, Keyed}
+use Rattle.index.specs.Work.{placeOf, printOf, Ready, Keyed}
 
 -- for whoever enters the rows itself
-pub keyed-start : {K : Type 0} {key : ℕ → K} {passes : K → ℕ → Bool} {hashOf : K → ℕ} {w : List ℕ} {m rows : ℕ} → Ready w m rows → Keyed key passes hashOf w m rows 0
-keyed-start {key = key} {passes = passes} {hashOf = hashOf} r = record { there = r .there (λ x k. passes (key x) k) (λ k. hashOf (key k)) }
+pub keyed-start : {K : Type 0} {key : ℕ → K} {passes : K → ℕ → Bool} {mixOf : K → ℕ} {w : List ℕ} {m rows : ℕ} → Ready w m rows → Keyed key passes mixOf w m rows 0
+keyed-start {key = key} {passes = passes} {mixOf = mixOf} {m = m} r = record { there = r .there (λ x k. passes (key x) k) (λ k. placeOf m (mixOf (key k))) (λ k. printOf (mixOf (key k))) }
 
 -- for a rule that looks among the rows below row k alone: what is found among all n rows has the same partner
 pub partner-of-all : (p : ℕ → Bool) (k n : ℕ) → k ≤ n → partner (first p n) k ≡ partner (first p k) k

@@ -1,10 +1,12 @@
-// The place of a key among the heads of an index. Every field has a multiplier of its own, and upper halves are folded in.
+// The mix of a key, from which its place among the heads of an index and its print are taken. Every field has a multiplier of its own, and upper halves are folded in.
 ghost use mathlib.Core.Path.{_≡_};
 ghost use Prim.Native.Nat.{_<_};
 ghost use lib.ListN.{getD};
 ghost use Rattle.octets.specs.Numbers.{signed};
 ghost use Rattle.octets.specs.Texts.{spell};
-ghost use Rattle.index.specs.Hashes.{folded, sumOf, nameMix, placeOf, keyHash};
+ghost use Rattle.index.specs.Hashes.{folded, sumOf, nameMix, stirred, keyMix};
+ghost use Rattle.index.specs.Keys.{meaning};
+use crate::Key;
 use octets::Name;
 
 // The octet at any place, 0 past the end.
@@ -53,17 +55,34 @@ fn name_mix(s: &[u8]) -> u64
     sum(l, octet_at(s, 0), octet_at(s, 1), octet_at(s, 2))
 }
 
-fn place(m: usize, x: u64) -> usize
-    requires { ⌜ 0 < m ⌝ }
-    ensures { λ h. ⌜ (h ≡ placeOf m x) × (h < m) ⌝ }
+fn stir(x: u64) -> u64
+    ensures { λ r. ⌜ (r ≡ stirred x) × (r < 4294967296) ⌝ }
 {
-    (fold(x) * 33554393 / 65536 % 4294967296) as usize % m
+    fold(x) * 33554393 / 65536 % 4294967296
 }
 
-// The place of a name and three numbers, by their patterns, among m heads.
-pub fn hash(names: &[u8], m: usize, x: Name, z: u64, c: u64, r: u64) -> usize
-    requires { ⌜ 0 < m ⌝ }
-    ensures { λ h. ⌜ (h ≡ keyHash m (spell (now (names .entry)) x) (signed z) (signed c) (signed r)) × (h < m) ⌝ }
+// A name and three numbers, by their patterns.
+pub fn mix_of(names: &[u8], x: Name, z: u64, c: u64, r: u64) -> usize
+    ensures { λ y. ⌜ (y ≡ keyMix (spell (now (names .entry)) x, signed z, signed c, signed r)) × (y < 4294967296) ⌝ }
 {
-    place(m, sum(name_mix(octets::spelled(names, x)), z, c, r))
+    stir(sum(name_mix(octets::spelled(names, x)), z, c, r)) as usize
+}
+
+// The mix of a key.
+pub fn mix(names: &[u8], key: Key) -> usize
+    ensures { λ y. ⌜ (y ≡ keyMix (meaning (now (names .entry)) key)) × (y < 4294967296) ⌝ }
+{
+    match key {
+        Key::Address {
+            name,
+            zoom,
+            column,
+            row,
+        } => mix_of(names, name, zoom, column, row),
+        Key::TileName(x) => mix_of(names, x, 0, 0, 0),
+        Key::Level { name, zoom } => mix_of(names, name, zoom, 0, 0),
+        Key::MatrixName(x) => mix_of(names, x, 0, 0, 0),
+        Key::TilesName(x) => mix_of(names, x, 0, 0, 0),
+        Key::SetName(x) => mix_of(names, x, 0, 0, 0),
+    }
 }

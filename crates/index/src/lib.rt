@@ -1,25 +1,53 @@
-// Rows found by their keys in near-constant time: one chained index over lent octets, used for five kinds of key.
-mod contents;
+// Rows found by their keys in near-constant time: one chained index over lent octets, for every kind of key.
+use octets::Name;
+
+mod addresses;
+mod entries;
 mod hashes;
-mod matrices;
-mod sets;
-mod tile_names;
-mod tiles;
+mod keys;
+mod levels;
+mod shelf;
+mod sizes;
 mod work;
 
-pub use contents::enter_content;
-pub use contents::find_content;
-pub use contents::index_contents;
-pub use matrices::enter_matrix;
-pub use matrices::find_matrix;
-pub use matrices::index_matrices;
-pub use sets::enter_set;
-pub use sets::find_set;
-pub use sets::index_sets;
-pub use tile_names::enter_tile_name;
-pub use tile_names::find_tile_name;
-pub use tile_names::index_tile_names;
-pub use tiles::enter_tile;
-pub use tiles::find_tile;
-pub use tiles::index_tiles;
+pub use addresses::enter_address;
+pub use entries::enter;
+pub use entries::find;
+pub use entries::index_all;
+pub use levels::find_level;
+pub use shelf::lowest;
+pub use shelf::shelve;
+pub use sizes::lowest_531;
 pub use work::start;
+
+// What is indexed, and by which key.
+pub enum Kind {
+    // tiles
+    Address,
+    TileName,
+    // matrices
+    Level,
+    MatrixName,
+    // contents rows that make their name a tiles name
+    TilesName,
+    // sets
+    SetName,
+}
+
+// A key to look for.
+pub enum Key {
+    Address {
+        name: Name,
+        zoom: u64,
+        column: u64,
+        row: u64,
+    },
+    TileName(Name),
+    Level {
+        name: Name,
+        zoom: u64,
+    },
+    MatrixName(Name),
+    TilesName(Name),
+    SetName(Name),
+}

@@ -2,7 +2,7 @@
 ghost use mathlib.Core.Path.{_≡_};
 ghost use Prim.Native.Nat.{ℕ, _+_, _*_, _/_, _<_, _≤_};
 ghost use lib.ListN.{length};
-ghost use Rattle.index.specs.Work.{wordAt, putWord, pushed, settled, headsFor, Ready};
+ghost use Rattle.index.specs.Work.{wordAt, putWord, placeOf, printOf, pushed, settled, headsFor, Ready};
 
 pub fn word_at(w: &[u8], j: usize) -> usize
     requires { ⌜ 4 * j + 4 ≤ length (now w) ⌝ }
@@ -15,32 +15,43 @@ fn put_word(w: &mut [u8], j: usize, x: usize)
     requires { ⌜ 4 * j + 4 ≤ length (now w) ⌝ }
     ensures { λ _. ⌜ now (w .exit) ≡ putWord (now (w .entry)) j x ⌝ }
 {
-    let at = 4 * j;
-    w[at] = (x % 256) as u8;
-    w[at + 1] = (x / 256 % 256) as u8;
-    w[at + 2] = (x / 65536 % 256) as u8;
-    w[at + 3] = (x / 16777216 % 256) as u8;
+    octets::put_word(w, 4 * j, x);
 }
 
-// Puts row i before the rows on the chain of hash h.
-fn push(w: &mut [u8], m: usize, h: usize, i: usize)
+// The place of a mix among m heads.
+pub fn place(m: usize, y: usize) -> usize
+    requires { ⌜ (0 < m) × (m < 4294967296) × (y < 4294967296) ⌝ }
+    ensures { λ h. ⌜ (h ≡ placeOf m y) × (h < m) ⌝ }
+{
+    y * m / 4294967296
+}
+
+// Its print.
+pub fn print(y: usize) -> usize
+    ensures { λ p. ⌜ (p ≡ printOf y) × (p < 8192) ⌝ }
+{
+    y % 8192
+}
+
+// Puts row i, of mix y, before the rows on the chain of hash h.
+fn push(w: &mut [u8], m: usize, h: usize, y: usize, i: usize)
     requires { ⌜ (h < m) × (4 * (m + i) + 4 ≤ length (now w)) ⌝ }
-    ensures { λ _. ⌜ now (w .exit) ≡ pushed (now (w .entry)) m h i ⌝ }
+    ensures { λ _. ⌜ now (w .exit) ≡ pushed (now (w .entry)) m h y i ⌝ }
 {
     let head = word_at(w, h);
     put_word(w, m + i, head);
-    put_word(w, h, i + 1);
+    put_word(w, h, i + 1 + 524288 * print(y));
 }
 
-// Row i, of hash h, for whose key a walk has found r. It is put there where it is the first of its key.
-pub fn settle(w: &mut [u8], m: usize, h: usize, i: usize, r: usize)
-    requires { ⌜ (h < m) × (4 * (m + i) + 4 ≤ length (now w)) ⌝ }
-    ensures { λ _. ⌜ now (w .exit) ≡ settled (now (w .entry)) m h i r ⌝ }
+// Row i, of mix y, for whose key a walk has found r. It is put there where it is the first of its key.
+pub fn settle(w: &mut [u8], m: usize, y: usize, i: usize, r: usize)
+    requires { ⌜ (0 < m) × (m < 4294967296) × (y < 4294967296) × (4 * (m + i) + 4 ≤ length (now w)) ⌝ }
+    ensures { λ _. ⌜ now (w .exit) ≡ settled (now (w .entry)) m (placeOf m y) y i r ⌝ }
 {
     if r < i {
         return;
     }
-    push(w, m, h, i);
+    push(w, m, place(m, y), y, i);
 }
 
 // Makes the first m words 0.
@@ -59,14 +70,14 @@ fn clear(w: &mut [u8], m: usize)
 fn heads_for(words: usize, rows: usize) -> usize
     ensures { λ r. ⌜ r ≡ headsFor words rows ⌝ }
 {
-    if rows < 4294967295 {
+    if rows < 524287 {
         if rows < words {
             let free = words - rows;
-            let some = rows + 64;
+            let some = rows + 16384;
             if free < some {
-                return (free + 1) / 2 * 2 - 1;
+                return free;
             }
-            return (some + 1) / 2 * 2 - 1;
+            return some;
         }
     }
     0

@@ -9,7 +9,7 @@ use lib.Dec.{ltb}
 use Rattle.octets.specs.Search.{first, any}
 use Rattle.octets.specs.Texts.{Nullable, There, Null}
 use Rattle.spelling.specs.ExtensionNames.{inside, isExtensionName}
-use Rattle.rules.specs.Judgments.{partner}
+use Rattle.rules.specs.Judgments.{none, partner}
 use Rattle.rules.specs.Extensions.{lacks601}
 use Rattle.rules.specs.declared.Judgment.{Judgment}
 use Rattle.rules.specs.declared.Judgment.the-variants.{Clean, Hit}
@@ -23,13 +23,21 @@ module _ (a r : Bool) where
   pub not-false : false ≡ a → true ≡ not a
   not-false e = ap not e
 
+-- a finding where there is none, and none where there is one
+pub turned : (b : Bool) → cond (not b) (Hit none) Clean ≡ cond b Clean (Hit none)
+turned true = refl
+turned false = refl
+
 pub ruleset wrongs = (not-same, not-false, tests, needs)
 
 -- a search below n has answered r
+pub is-found : (p : ℕ → Bool) (n r : ℕ) → r ≡ first p n → ltb r n ≡ any p n
+unfolding any
+is-found p n r e = simp (← e)
+
 module _ (p : ℕ → Bool) (n r : ℕ) (v w u : Judgment) (e : r ≡ first p n) where
   pub searched : v ≡ cond (ltb r n) w u → v ≡ cond (any p n) w u
-  unfolding any
-  searched q = simp (← e) q
+  searched q = simp (← is-found p n r e) q
 
   pub found : r < n → v ≡ w → v ≡ cond (any p n) w u
   found l q = searched (simp (lt-ltb r n l) q)
@@ -37,7 +45,7 @@ module _ (p : ℕ → Bool) (n r : ℕ) (v w u : Judgment) (e : r ≡ first p n)
   pub missed : n ≤ r → v ≡ u → v ≡ cond (any p n) w u
   missed l q = searched (simp (le-ltb r n l) q)
 
-pub ruleset searches = (searched, found, missed, needs)
+pub ruleset searches = (is-found, searched, found, missed, needs)
 
 -- 351: the lowest row that breaks it, where the name has a tile (t) and is not free (f). The code asks in another order
 module _ (t f : Bool) (p : ℕ → Bool) (n r : ℕ) (e : r ≡ first p n) where

@@ -1,22 +1,27 @@
 // The rules on contents: 131, 151, 161, 162, 171, 401; and tiles names: 341, 391, 431.
 ghost use mathlib.Core.Path.{_≡_};
 ghost use mathlib.Core.Bool.{not};
+ghost use Prim.Native.Nat.{_/_};
+ghost use lib.ListN.{length};
+ghost use Rattle.octets.specs.Search.{first};
 ghost use Rattle.octets.specs.Texts.{spell};
+ghost use Rattle.index.specs.declared.Kind.the-variants.{TilesName, SetName};
+ghost use Rattle.index.specs.Keys.{Indexes};
 ghost use Rattle.pack.specs.Tables.{contentOf, contentsOf, referencesOf, setsOf};
 ghost use Rattle.rules.specs.Judgments.{faultIf};
-ghost use Rattle.rules.specs.Contents.{isTilesName, of131, of151, of161, of162, none171, of401};
+ghost use Rattle.rules.specs.Contents.{isTilesName, breaks162, of131, of151, of161, of162, none171, of401};
 use crate::judgments::fault_if;
 use crate::judgments::partner_of;
 use crate::judgments::unless_found;
 use crate::references::lacks_id;
 use crate::sets::first_named;
+use index::Key;
 use listing::ContentsTable;
 use listing::SetTable;
 use octets::Name;
 use pack::ContentsRow;
 use rules::Judgment;
 use seek::ContentTest;
-use seek::SetTest;
 
 pub fn of_131(contents: &[u8], names: &[u8], c: ContentsRow, i: usize) -> Judgment
     ensures { λ r. ⌜ r ≡ of131 (contentsOf (now (contents .entry)) (now (names .entry))) (contentOf (now (names .entry)) c) i ⌝ }
@@ -43,12 +48,27 @@ pub fn of_161(references: &[u8], names: &[u8], c: ContentsRow) -> Judgment
     Judgment::Clean
 }
 
+// The lowest of the first n set rows that breaks 162 with a contents row, or n: every row of both tables is met.
+fn first_162(sets: &[u8], names: &[u8], c: ContentsRow, n: usize) -> usize
+    ensures { λ r. ⌜ r ≡ first (λ j. breaks162 (contentOf (now (names .entry)) c) (setsOf (now (sets .entry)) (now (names .entry)) .row j)) n ⌝ }
+{
+    let mut i = 0;
+    while i < n {
+        let next = i + 1;
+        if seek::breaks_162(names, c, pack::set_at(sets, i)) {
+            return i;
+        }
+        i = next;
+    }
+    n
+}
+
 pub fn of_162(sets: &[u8], names: &[u8], c: ContentsRow) -> Judgment
     ensures { λ r. ⌜ r ≡ of162 (setsOf (now (sets .entry)) (now (names .entry))) (contentOf (now (names .entry)) c) ⌝ }
 {
     if seek::is_of_type(names, b"tiles", c) {
         let n = sets.len() / (SetTable::ROW as usize);
-        return partner_of(seek::first_set(sets, names, SetTest::Breaks162(c), n), n);
+        return partner_of(first_162(sets, names, c, n), n);
     }
     Judgment::Clean
 }
@@ -60,28 +80,31 @@ pub fn none_171(contents: &[u8], names: &[u8]) -> Judgment
     unless_found(seek::first_content(contents, names, ContentTest::Map, n), n)
 }
 
-pub fn of_401(sets: &[u8], names: &[u8], c: ContentsRow) -> Judgment
+pub fn of_401(sets: &[u8], names: &[u8], work: &[u8], m: usize, c: ContentsRow) -> Judgment
+    requires { ⌜ Indexes SetName (now sets) (now names) (now work) m (length (now sets) / 48) ⌝ }
     ensures { λ r. ⌜ r ≡ of401 (setsOf (now (sets .entry)) (now (names .entry))) (contentOf (now (names .entry)) c) ⌝ }
 {
     if seek::is_of_type(names, b"tiles", c) {
         let n = sets.len() / (SetTable::ROW as usize);
-        return unless_found(first_named(sets, names, c.name, n), n);
+        return unless_found(first_named(sets, names, work, m, c.name), n);
     }
     Judgment::Clean
 }
 
 // ---- tiles names
 
-pub fn is_tiles_name(contents: &[u8], names: &[u8], x: Name) -> bool
+fn is_tiles_name(contents: &[u8], names: &[u8], work: &[u8], m: usize, x: Name) -> bool
+    requires { ⌜ Indexes TilesName (now contents) (now names) (now work) m (length (now contents) / 40) ⌝ }
     ensures { λ r. ⌜ r ≡ isTilesName (contentsOf (now (contents .entry)) (now (names .entry))) (spell (now (names .entry)) x) ⌝ }
 {
     let n = contents.len() / (ContentsTable::ROW as usize);
-    seek::first_content(contents, names, ContentTest::Tiles(x), n) < n
+    index::find(contents, names, work, m, Key::TilesName(x)) < n
 }
 
 // 341, 391, 431: by the name of the row.
-pub fn unless_tiles_name(contents: &[u8], names: &[u8], x: Name) -> Judgment
+pub fn unless_tiles_name(contents: &[u8], names: &[u8], work: &[u8], m: usize, x: Name) -> Judgment
+    requires { ⌜ Indexes TilesName (now contents) (now names) (now work) m (length (now contents) / 40) ⌝ }
     ensures { λ r. ⌜ r ≡ faultIf (not (isTilesName (contentsOf (now (contents .entry)) (now (names .entry))) (spell (now (names .entry)) x))) ⌝ }
 {
-    fault_if(!is_tiles_name(contents, names, x))
+    fault_if(!is_tiles_name(contents, names, work, m, x))
 }

@@ -1,17 +1,26 @@
 // The rules on matrices: 351, 432, 451, 452, 461, 471, 481, 491, 501, 511, 521, 531 (431 goes by tiles names).
 ghost use mathlib.Core.Path.{_≡_};
-ghost use mathlib.Core.Bool.{not};
+ghost use Prim.Native.Nat.{ℕ, _/_};
+ghost use mathlib.Core.Bool.{true, not};
+ghost use lib.IntN.{sucℤ};
+ghost use lib.ListN.{length};
 ghost use lib.Signed.{ltZ};
-ghost use Rattle.octets.specs.Numbers.{signed};
+ghost use Rattle.octets.specs.Numbers.{signed, eqZ};
 ghost use Rattle.octets.specs.Search.{first};
 ghost use Rattle.octets.specs.Texts.{spell};
 ghost use Rattle.doubles.specs.Doubles.{positive};
 ghost use Rattle.pack.specs.Tables.{matrixOf, matricesOf, setsOf, tilesOf, extensionsOf};
 ghost use Rattle.rules.specs.Judgments.{faultIf, some};
-ghost use Rattle.rules.specs.Matrices.{atLevel, tileNamed, frees, of351, of432, fits451, fits452, measured, of451, of452, of531};
+ghost use Rattle.rules.specs.Matrices.{atLevel, tileNamed, frees, breaks351, of351, of432, measured, of531};
+ghost use Rattle.index.specs.declared.Kind.the-variants.{TileName, Level, MatrixName, SetName};
+ghost use Rattle.index.specs.Keys.{Indexes, Shelves};
+ghost use Rattle.judge.specs.Axes.{fitsAlong, ofMeasured};
+use crate::Axis;
 use crate::judgments::fault_if;
 use crate::judgments::partner_of;
 use crate::sets::first_named;
+use doubles::Extent;
+use index::Key;
 use listing::ExtensionTable;
 use listing::MatrixTable;
 use listing::SetTable;
@@ -21,17 +30,18 @@ use pack::MatrixRow;
 use rules::Judgment;
 use seek::ExtensionTest;
 use seek::MatrixTest;
-use seek::TileTest;
 
 // ---- 351
 
-fn has_tile(tiles: &[u8], names: &[u8], x: Name) -> bool
+fn has_tile(tiles: &[u8], names: &[u8], more: &[u8], l: usize, x: Name) -> bool
+    requires { ⌜ Indexes TileName (now tiles) (now names) (now more) l (length (now tiles) / 32) ⌝ }
     ensures { λ r. ⌜ r ≡ some (tileNamed (spell (now (names .entry)) x)) (tilesOf (now (tiles .entry)) (now (names .entry))) ⌝ }
 {
     let n = tiles.len() / (TileTable::ROW as usize);
-    seek::first_tile(tiles, names, TileTest::Named(x), n) < n
+    index::find(tiles, names, more, l, Key::TileName(x)) < n
 }
 
+// An extension row frees the name from the rule.
 fn is_free(extensions: &[u8], names: &[u8], x: Name) -> bool
     ensures { λ r. ⌜ r ≡ some (frees (spell (now (names .entry)) x)) (extensionsOf (now (extensions .entry)) (now (names .entry))) ⌝ }
 {
@@ -39,25 +49,54 @@ fn is_free(extensions: &[u8], names: &[u8], x: Name) -> bool
     seek::first_extension(extensions, names, ExtensionTest::Frees(x), n) < n
 }
 
-// Most rows break nothing, so that is asked first; the tiles, of which there are most, are searched last.
+// The pattern of what is one below p: whatever is one below p is that.
+fn one_less(p: u64) -> u64
+    ensures { λ r. ⌜ ((a : ℕ) → eqZ (sucℤ (signed a)) (signed p) ≡ true → signed a ≡ signed r) ⌝ }
+{
+    if p == 0 {
+        return 18446744073709551615;
+    }
+    p - 1
+}
+
+// The lowest matrix row that breaks 351 with a row, or the count: it is one level lower.
+pub fn first_step(matrices: &[u8], names: &[u8], work: &[u8], m: usize, q: MatrixRow) -> usize
+    requires { ⌜ Shelves Level (now matrices) (now names) (now work) m (length (now matrices) / 64) ⌝ }
+    ensures { λ r. ⌜ r ≡ first (λ j. breaks351 (matrixOf (now (names .entry)) q) (matricesOf (now (matrices .entry)) (now (names .entry)) .row j)) (length (now (matrices .entry)) / 64) ⌝ }
+{
+    let name = q.name;
+    let key = Key::Level {
+        name,
+        zoom: one_less(q.zoom),
+    };
+    index::lowest(matrices, names, work, m, key, MatrixTest::Breaks351(q))
+}
+
+// Most rows break nothing, so that is asked first.
 pub fn of_351(
     matrices: &[u8],
     tiles: &[u8],
     extensions: &[u8],
     names: &[u8],
-    m: MatrixRow,
+    work: &[u8],
+    m: usize,
+    more: &[u8],
+    l: usize,
+    q: MatrixRow,
 ) -> Judgment
-    ensures { λ r. ⌜ r ≡ of351 (matricesOf (now (matrices .entry)) (now (names .entry))) (tilesOf (now (tiles .entry)) (now (names .entry))) (extensionsOf (now (extensions .entry)) (now (names .entry))) (matrixOf (now (names .entry)) m) ⌝ }
+    requires { ⌜ Shelves Level (now matrices) (now names) (now work) m (length (now matrices) / 64) ⌝ }
+    requires { ⌜ Indexes TileName (now tiles) (now names) (now more) l (length (now tiles) / 32) ⌝ }
+    ensures { λ r. ⌜ r ≡ of351 (matricesOf (now (matrices .entry)) (now (names .entry))) (tilesOf (now (tiles .entry)) (now (names .entry))) (extensionsOf (now (extensions .entry)) (now (names .entry))) (matrixOf (now (names .entry)) q) ⌝ }
 {
     let n = matrices.len() / (MatrixTable::ROW as usize);
-    let k = seek::first_matrix(matrices, names, MatrixTest::Breaks351(m), n);
+    let k = first_step(matrices, names, work, m, q);
     if n <= k {
         return Judgment::Clean;
     }
-    if is_free(extensions, names, m.name) {
+    if is_free(extensions, names, q.name) {
         return Judgment::Clean;
     }
-    if has_tile(tiles, names, m.name) {
+    if has_tile(tiles, names, more, l, q.name) {
         return Judgment::Hit(k);
     }
     Judgment::Clean
@@ -65,53 +104,81 @@ pub fn of_351(
 
 // ---- 432
 
-// The first of n matrix rows with the name and the zoom level, or n.
-pub fn first_level(matrices: &[u8], names: &[u8], x: Name, zoom: u64, n: usize) -> usize
-    ensures { λ r. ⌜ r ≡ first (λ j. atLevel (spell (now (names .entry)) x) (signed zoom) (matricesOf (now (matrices .entry)) (now (names .entry)) .row j)) n ⌝ }
+// The first matrix row with the name and the zoom level, or the count.
+pub fn first_level(
+    matrices: &[u8],
+    names: &[u8],
+    work: &[u8],
+    m: usize,
+    x: Name,
+    zoom: u64,
+) -> usize
+    requires { ⌜ Indexes Level (now matrices) (now names) (now work) m (length (now matrices) / 64) ⌝ }
+    ensures { λ r. ⌜ r ≡ first (λ j. atLevel (spell (now (names .entry)) x) (signed zoom) (matricesOf (now (matrices .entry)) (now (names .entry)) .row j)) (length (now (matrices .entry)) / 64) ⌝ }
 {
-    seek::first_matrix(matrices, names, MatrixTest::Level { name: x, zoom }, n)
+    index::find_level(matrices, names, work, m, x, zoom)
 }
 
-pub fn of_432(matrices: &[u8], names: &[u8], m: MatrixRow, i: usize) -> Judgment
-    ensures { λ r. ⌜ r ≡ of432 (matricesOf (now (matrices .entry)) (now (names .entry))) (matrixOf (now (names .entry)) m) i ⌝ }
+// Of a row of the table, the index has the rows before it; past its end there is none.
+pub fn of_432(
+    matrices: &[u8],
+    names: &[u8],
+    work: &[u8],
+    m: usize,
+    q: MatrixRow,
+    i: usize,
+) -> Judgment
+    requires { ⌜ Indexes Level (now matrices) (now names) (now work) m (length (now matrices) / 64) ⌝ }
+    ensures { λ r. ⌜ r ≡ of432 (matricesOf (now (matrices .entry)) (now (names .entry))) (matrixOf (now (names .entry)) q) i ⌝ }
 {
-    partner_of(first_level(matrices, names, m.name, m.zoom, i), i)
+    if i <= matrices.len() / (MatrixTable::ROW as usize) {
+        return partner_of(first_level(matrices, names, work, m, q.name, q.zoom), i);
+    }
+    let name = q.name;
+    let test = MatrixTest::Level { name, zoom: q.zoom };
+    partner_of(seek::first_matrix(matrices, names, test, i), i)
 }
 
 // ---- 451, 452: k is the first set row of the matrix's name
 
-pub fn measured_451(sets: &[u8], names: &[u8], m: MatrixRow, k: usize) -> Judgment
-    ensures { λ r. ⌜ r ≡ measured fits451 (setsOf (now (sets .entry)) (now (names .entry))) (matrixOf (now (names .entry)) m) k ⌝ }
+// The names stand in what a row means; the test does not ask for them.
+fn does_fit(names: &[u8], along: Axis, m: MatrixRow, e: Extent) -> bool
+    ensures { λ r. ⌜ r ≡ fitsAlong along (matrixOf (now (names .entry)) m) e ⌝ }
+{
+    match along {
+        Axis::X => doubles::spans_x(e, m.width, m.tile_width, m.pixel_x),
+        Axis::Y => doubles::spans_y(e, m.height, m.tile_height, m.pixel_y),
+    }
+}
+
+fn measured(sets: &[u8], names: &[u8], along: Axis, m: MatrixRow, k: usize) -> Judgment
+    ensures { λ r. ⌜ r ≡ measured (fitsAlong along) (setsOf (now (sets .entry)) (now (names .entry))) (matrixOf (now (names .entry)) m) k ⌝ }
 {
     if k < sets.len() / (SetTable::ROW as usize) {
         let q = pack::set_at(sets, k);
-        return fault_if(!doubles::spans_x(q.extent, m.width, m.tile_width, m.pixel_x));
+        return fault_if(!does_fit(names, along, m, q.extent));
     }
     Judgment::Clean
 }
 
-pub fn measured_452(sets: &[u8], names: &[u8], m: MatrixRow, k: usize) -> Judgment
-    ensures { λ r. ⌜ r ≡ measured fits452 (setsOf (now (sets .entry)) (now (names .entry))) (matrixOf (now (names .entry)) m) k ⌝ }
+pub fn of_measured(
+    sets: &[u8],
+    names: &[u8],
+    work: &[u8],
+    m: usize,
+    along: Axis,
+    q: MatrixRow,
+) -> Judgment
+    requires { ⌜ Indexes SetName (now sets) (now names) (now work) m (length (now sets) / 48) ⌝ }
+    ensures { λ r. ⌜ r ≡ ofMeasured along (setsOf (now (sets .entry)) (now (names .entry))) (matrixOf (now (names .entry)) q) ⌝ }
 {
-    if k < sets.len() / (SetTable::ROW as usize) {
-        let q = pack::set_at(sets, k);
-        return fault_if(!doubles::spans_y(q.extent, m.height, m.tile_height, m.pixel_y));
-    }
-    Judgment::Clean
-}
-
-pub fn of_451(sets: &[u8], names: &[u8], m: MatrixRow) -> Judgment
-    ensures { λ r. ⌜ r ≡ of451 (setsOf (now (sets .entry)) (now (names .entry))) (matrixOf (now (names .entry)) m) ⌝ }
-{
-    let n = sets.len() / (SetTable::ROW as usize);
-    measured_451(sets, names, m, first_named(sets, names, m.name, n))
-}
-
-pub fn of_452(sets: &[u8], names: &[u8], m: MatrixRow) -> Judgment
-    ensures { λ r. ⌜ r ≡ of452 (setsOf (now (sets .entry)) (now (names .entry))) (matrixOf (now (names .entry)) m) ⌝ }
-{
-    let n = sets.len() / (SetTable::ROW as usize);
-    measured_452(sets, names, m, first_named(sets, names, m.name, n))
+    measured(
+        sets,
+        names,
+        along,
+        q,
+        first_named(sets, names, work, m, q.name),
+    )
 }
 
 // ---- 461, 471, 481, 491, 501: by the number, and the least that it may be
@@ -132,12 +199,10 @@ pub fn unless_positive(size: f64) -> Judgment
 
 // ---- 531
 
-pub fn of_531(matrices: &[u8], names: &[u8], m: MatrixRow) -> Judgment
-    ensures { λ r. ⌜ r ≡ of531 (matricesOf (now (matrices .entry)) (now (names .entry))) (matrixOf (now (names .entry)) m) ⌝ }
+pub fn of_531(matrices: &[u8], names: &[u8], work: &[u8], m: usize, q: MatrixRow) -> Judgment
+    requires { ⌜ Shelves MatrixName (now matrices) (now names) (now work) m (length (now matrices) / 64) ⌝ }
+    ensures { λ r. ⌜ r ≡ of531 (matricesOf (now (matrices .entry)) (now (names .entry))) (matrixOf (now (names .entry)) q) ⌝ }
 {
     let n = matrices.len() / (MatrixTable::ROW as usize);
-    partner_of(
-        seek::first_matrix(matrices, names, MatrixTest::Breaks531(m), n),
-        n,
-    )
+    partner_of(index::lowest_531(matrices, names, work, m, q), n)
 }

@@ -1,25 +1,38 @@
 // The rules on matrix sets: 392 (391 goes by tiles names, 411 by ids); and the search for a set of a name.
 ghost use mathlib.Core.Path.{_≡_};
+ghost use Prim.Native.Nat.{_/_};
+ghost use lib.ListN.{length};
 ghost use Rattle.octets.specs.Search.{first};
 ghost use Rattle.octets.specs.Texts.{spell};
 ghost use Rattle.pack.specs.Tables.{setOf, setsOf};
 ghost use Rattle.rules.specs.Contents.{setNamed};
 ghost use Rattle.rules.specs.Sets.{of392};
+ghost use Rattle.index.specs.declared.Kind.the-variants.{SetName};
+ghost use Rattle.index.specs.Keys.{Indexes};
 use crate::judgments::partner_of;
+use index::Key;
+use listing::SetTable;
 use octets::Name;
 use pack::SetRow;
 use rules::Judgment;
 use seek::SetTest;
 
-// The first of n set rows with the name, or n.
-pub fn first_named(sets: &[u8], names: &[u8], x: Name, n: usize) -> usize
-    ensures { λ r. ⌜ r ≡ first (λ j. setNamed (spell (now (names .entry)) x) (setsOf (now (sets .entry)) (now (names .entry)) .row j)) n ⌝ }
+// The first set row with the name, or the count.
+pub fn first_named(sets: &[u8], names: &[u8], work: &[u8], m: usize, x: Name) -> usize
+    requires { ⌜ Indexes SetName (now sets) (now names) (now work) m (length (now sets) / 48) ⌝ }
+    ensures { λ r. ⌜ r ≡ first (λ j. setNamed (spell (now (names .entry)) x) (setsOf (now (sets .entry)) (now (names .entry)) .row j)) (length (now (sets .entry)) / 48) ⌝ }
 {
-    seek::first_set(sets, names, SetTest::Named(x), n)
+    index::find(sets, names, work, m, Key::SetName(x))
 }
 
-pub fn of_392(sets: &[u8], names: &[u8], q: SetRow, i: usize) -> Judgment
+// Of a row of the table, the index has the rows before it; past its end there is none.
+pub fn of_392(sets: &[u8], names: &[u8], work: &[u8], m: usize, q: SetRow, i: usize) -> Judgment
+    requires { ⌜ Indexes SetName (now sets) (now names) (now work) m (length (now sets) / 48) ⌝ }
     ensures { λ r. ⌜ r ≡ of392 (setsOf (now (sets .entry)) (now (names .entry))) (setOf (now (names .entry)) q) i ⌝ }
 {
-    partner_of(first_named(sets, names, q.name, i), i)
+    if i <= sets.len() / (SetTable::ROW as usize) {
+        return partner_of(first_named(sets, names, work, m, q.name), i);
+    }
+    let name = q.name;
+    partner_of(seek::first_set(sets, names, SetTest::Named(name), i), i)
 }

@@ -1,23 +1,37 @@
 // The rules on tiles: 441, 541, 551, 561, 571 (341 goes by tiles names).
 ghost use mathlib.Core.Path.{_≡_};
+ghost use Prim.Native.Nat.{_/_};
+ghost use lib.IntN.{pos};
+ghost use lib.ListN.{length};
 ghost use Rattle.octets.specs.Numbers.{signed};
-ghost use Rattle.pack.specs.Tables.{matricesOf, tileOf, tilesOf};
-ghost use Rattle.rules.specs.Tiles.{of441, of541, of551, offGrid, off561, off571, placed, of561, of571};
+ghost use Rattle.octets.specs.Search.{any};
+ghost use Rattle.octets.specs.Texts.{spell};
+ghost use Rattle.seek.specs.Tests.{matrixPasses};
+ghost use Rattle.index.specs.declared.Kind.the-variants.{Level, MatrixName};
+ghost use Rattle.index.specs.Keys.{Indexes, Shelves, Confines};
+ghost use Rattle.pack.specs.Tables.{matrixOf, matricesOf, tileOf, tilesOf};
+ghost use Rattle.rules.specs.Tiles.{of441, of541, of551, offGrid, placed};
+ghost use Rattle.judge.specs.Axes.{offAlong, ofPlaced};
+use crate::Axis;
 use crate::judgments::fault_if;
 use crate::judgments::partner_of;
 use crate::judgments::unless_found;
 use crate::matrices::first_level;
+use index::Key;
 use listing::MatrixTable;
+use octets::Name;
+use pack::MatrixRow;
 use pack::TileRow;
 use rules::Judgment;
 use seek::MatrixTest;
 use seek::TileTest;
 
-pub fn of_441(matrices: &[u8], names: &[u8], t: TileRow) -> Judgment
+pub fn of_441(matrices: &[u8], names: &[u8], work: &[u8], m: usize, t: TileRow) -> Judgment
+    requires { ⌜ Indexes Level (now matrices) (now names) (now work) m (length (now matrices) / 64) ⌝ }
     ensures { λ r. ⌜ r ≡ of441 (matricesOf (now (matrices .entry)) (now (names .entry))) (tileOf (now (names .entry)) t) ⌝ }
 {
     let n = matrices.len() / (MatrixTable::ROW as usize);
-    unless_found(first_level(matrices, names, t.name, t.zoom, n), n)
+    unless_found(first_level(matrices, names, work, m, t.name, t.zoom), n)
 }
 
 pub fn of_541(tiles: &[u8], names: &[u8], t: TileRow, i: usize) -> Judgment
@@ -33,22 +47,57 @@ pub fn of_541(tiles: &[u8], names: &[u8], t: TileRow, i: usize) -> Judgment
     partner_of(seek::first_tile(tiles, names, test, i), i)
 }
 
-// Not judged where the name has no matrix row; below the lowest; above the highest.
-pub fn of_551(matrices: &[u8], names: &[u8], t: TileRow) -> Judgment
+// Whether a matrix row passes a test for its name.
+fn has_level(
+    matrices: &[u8],
+    names: &[u8],
+    more: &[u8],
+    l: usize,
+    x: Name,
+    test: MatrixTest,
+) -> bool
+    requires { ⌜ Shelves MatrixName (now matrices) (now names) (now more) l (length (now matrices) / 64) ⌝ }
+    requires { ⌜ Confines MatrixName (now matrices) (now names) (spell (now names) x, pos 0, pos 0, pos 0) (λ k. matrixPasses (now names) test (matricesOf (now matrices) (now names) .row k)) ⌝ }
+    ensures { λ r. ⌜ r ≡ any (λ k. matrixPasses (now (names .entry)) test (matricesOf (now (matrices .entry)) (now (names .entry)) .row k)) (length (now (matrices .entry)) / 64) ⌝ }
+{
+    let n = matrices.len() / (MatrixTable::ROW as usize);
+    index::lowest(matrices, names, more, l, Key::MatrixName(x), test) < n
+}
+
+// Its zoom is outside those of its name's matrix rows.
+fn of_range(matrices: &[u8], names: &[u8], more: &[u8], l: usize, t: TileRow) -> Judgment
+    requires { ⌜ Shelves MatrixName (now matrices) (now names) (now more) l (length (now matrices) / 64) ⌝ }
+    ensures { λ r. ⌜ r ≡ of551 (matricesOf (now (matrices .entry)) (now (names .entry))) (tileOf (now (names .entry)) t) ⌝ }
+{
+    let name = t.name;
+    if has_level(matrices, names, more, l, name, MatrixTest::Named(name)) {
+        if has_level(matrices, names, more, l, name, MatrixTest::AtMost(t)) {
+            return fault_if(!has_level(matrices, names, more, l, name, MatrixTest::AtLeast(t)));
+        }
+        return fault_if(true);
+    }
+    Judgment::Clean
+}
+
+// A tile whose name and zoom have a matrix row is inside, so the range is looked for only where there is none.
+pub fn of_551(
+    matrices: &[u8],
+    names: &[u8],
+    work: &[u8],
+    m: usize,
+    more: &[u8],
+    l: usize,
+    t: TileRow,
+) -> Judgment
+    requires { ⌜ Indexes Level (now matrices) (now names) (now work) m (length (now matrices) / 64) ⌝ }
+    requires { ⌜ Shelves MatrixName (now matrices) (now names) (now more) l (length (now matrices) / 64) ⌝ }
     ensures { λ r. ⌜ r ≡ of551 (matricesOf (now (matrices .entry)) (now (names .entry))) (tileOf (now (names .entry)) t) ⌝ }
 {
     let n = matrices.len() / (MatrixTable::ROW as usize);
-    let name = t.name;
-    if n <= seek::first_matrix(matrices, names, MatrixTest::Named(name), n) {
+    if first_level(matrices, names, work, m, t.name, t.zoom) < n {
         return Judgment::Clean;
     }
-    if n <= seek::first_matrix(matrices, names, MatrixTest::AtMost(t), n) {
-        return fault_if(true);
-    }
-    unless_found(
-        seek::first_matrix(matrices, names, MatrixTest::AtLeast(t), n),
-        n,
-    )
+    of_range(matrices, names, more, l, t)
 }
 
 // ---- 561, 571: k is the first matrix row of the tile's name and zoom
@@ -62,46 +111,40 @@ fn is_off(place: u64, size: u64) -> bool
     !octets::is_less(place, size)
 }
 
-pub fn placed_561(matrices: &[u8], names: &[u8], t: TileRow, k: usize) -> Judgment
-    ensures { λ r. ⌜ r ≡ placed off561 (matricesOf (now (matrices .entry)) (now (names .entry))) (tileOf (now (names .entry)) t) k ⌝ }
+fn is_off_along(names: &[u8], along: Axis, t: TileRow, q: MatrixRow) -> bool
+    ensures { λ r. ⌜ r ≡ offAlong along (tileOf (now (names .entry)) t) (matrixOf (now (names .entry)) q) ⌝ }
+{
+    match along {
+        Axis::X => is_off(t.column, q.width),
+        Axis::Y => is_off(t.row, q.height),
+    }
+}
+
+pub fn placed(matrices: &[u8], names: &[u8], along: Axis, t: TileRow, k: usize) -> Judgment
+    ensures { λ r. ⌜ r ≡ placed (offAlong along) (matricesOf (now (matrices .entry)) (now (names .entry))) (tileOf (now (names .entry)) t) k ⌝ }
 {
     if k < matrices.len() / (MatrixTable::ROW as usize) {
-        let q = pack::matrix_at(matrices, k);
-        return fault_if(is_off(t.column, q.width));
+        return fault_if(is_off_along(names, along, t, pack::matrix_at(matrices, k)));
     }
     Judgment::Clean
 }
 
-pub fn placed_571(matrices: &[u8], names: &[u8], t: TileRow, k: usize) -> Judgment
-    ensures { λ r. ⌜ r ≡ placed off571 (matricesOf (now (matrices .entry)) (now (names .entry))) (tileOf (now (names .entry)) t) k ⌝ }
+pub fn of_placed(
+    matrices: &[u8],
+    names: &[u8],
+    work: &[u8],
+    m: usize,
+    along: Axis,
+    t: TileRow,
+) -> Judgment
+    requires { ⌜ Indexes Level (now matrices) (now names) (now work) m (length (now matrices) / 64) ⌝ }
+    ensures { λ r. ⌜ r ≡ ofPlaced along (matricesOf (now (matrices .entry)) (now (names .entry))) (tileOf (now (names .entry)) t) ⌝ }
 {
-    if k < matrices.len() / (MatrixTable::ROW as usize) {
-        let q = pack::matrix_at(matrices, k);
-        return fault_if(is_off(t.row, q.height));
-    }
-    Judgment::Clean
-}
-
-pub fn of_561(matrices: &[u8], names: &[u8], t: TileRow) -> Judgment
-    ensures { λ r. ⌜ r ≡ of561 (matricesOf (now (matrices .entry)) (now (names .entry))) (tileOf (now (names .entry)) t) ⌝ }
-{
-    let n = matrices.len() / (MatrixTable::ROW as usize);
-    placed_561(
+    placed(
         matrices,
         names,
+        along,
         t,
-        first_level(matrices, names, t.name, t.zoom, n),
-    )
-}
-
-pub fn of_571(matrices: &[u8], names: &[u8], t: TileRow) -> Judgment
-    ensures { λ r. ⌜ r ≡ of571 (matricesOf (now (matrices .entry)) (now (names .entry))) (tileOf (now (names .entry)) t) ⌝ }
-{
-    let n = matrices.len() / (MatrixTable::ROW as usize);
-    placed_571(
-        matrices,
-        names,
-        t,
-        first_level(matrices, names, t.name, t.zoom, n),
+        first_level(matrices, names, work, m, t.name, t.zoom),
     )
 }

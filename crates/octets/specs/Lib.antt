@@ -1,4 +1,5 @@
 pub mod Octets
+pub mod OctetLaws
 pub mod Search
 pub mod SearchLaws
 pub mod Gather

@@ -2,11 +2,13 @@
 ghost use mathlib.Core.Path.{_≡_};
 ghost use Prim.Native.Nat.{_+_, _≤_, _<_};
 ghost use lib.ListN.{length};
+ghost use lib.Seq.{sets};
 ghost use lib.IntN.{sucℤ};
 ghost use lib.Signed.{ltZ};
-ghost use Rattle.octets.specs.Octets.{le32, le64, part};
+ghost use Rattle.octets.specs.Octets.{le32, le64, part, word};
 ghost use Rattle.octets.specs.Numbers.{signed, eqZ, biased};
 ghost use Rattle.octets.specs.Texts.{same, textOf, textAt, outside, nameAt, spell, octetsOf};
+ghost use Rattle.octets.specs.TextLaws.{Alike};
 
 // A text that is never NULL: where it starts in the names, and how long it is.
 pub struct Name {
@@ -44,6 +46,17 @@ pub fn long(s: &[u8], at: usize) -> u64
     (word(s, at) as u64) + 4294967296 * (word(s, at + 4) as u64)
 }
 
+// A number's lowest four octets put at a place that is there, the lowest first.
+pub fn put_word(w: &mut [u8], at: usize, x: usize)
+    requires { ⌜ at + 4 ≤ length (now w) ⌝ }
+    ensures { λ _. ⌜ now (w .exit) ≡ sets (now (w .entry)) at (word x) ⌝ }
+{
+    w[at] = (x % 256) as u8;
+    w[at + 1] = (x / 256 % 256) as u8;
+    w[at + 2] = (x / 65536 % 256) as u8;
+    w[at + 3] = (x / 16777216 % 256) as u8;
+}
+
 // The u32 at any place, 0 past the end.
 pub fn u32_at(s: &[u8], at: usize) -> u32
     ensures { λ r. ⌜ r ≡ le32 (now (s .entry)) at ⌝ }
@@ -72,14 +85,12 @@ pub fn part_of(s: &[u8], start: usize, len: usize) -> &[u8]
 
 // ---- texts
 
-// Whether two runs of octets are the same.
-pub fn equal(a: &[u8], b: &[u8]) -> bool
+// Whether two runs of octets, the same before start, are the same.
+fn equal_from(a: &[u8], b: &[u8], start: usize) -> bool
+    requires { ⌜ Alike (now a) (now b) start ⌝ }
     ensures { λ r. ⌜ r ≡ same (now (a .entry)) (now (b .entry)) ⌝ }
 {
-    if a.len() != b.len() {
-        return false;
-    }
-    let mut i = 0;
+    let mut i = start;
     while i < a.len() {
         if a[i] != b[i] {
             return false;
@@ -87,6 +98,23 @@ pub fn equal(a: &[u8], b: &[u8]) -> bool
         i += 1;
     }
     true
+}
+
+// Whether two runs of octets are the same. Eight octets are one test.
+pub fn equal(a: &[u8], b: &[u8]) -> bool
+    ensures { λ r. ⌜ r ≡ same (now (a .entry)) (now (b .entry)) ⌝ }
+{
+    if a.len() != b.len() {
+        return false;
+    }
+    let mut i = 0;
+    while i + 8 <= a.len() {
+        if long(a, i) != long(b, i) {
+            return false;
+        }
+        i += 8;
+    }
+    equal_from(a, b, i)
 }
 
 // The one place where a text is made of its two numbers.

@@ -3,3 +3,4 @@ pub mod Codes
 pub mod Looking
 pub mod Walking
 pub mod Writing
+pub mod Parts

@@ -5,7 +5,6 @@ ghost use mathlib.Core.List.{[], _∷_};
 ghost use lib.ListN.{length};
 ghost use lib.Seq.{sets};
 ghost use Rattle.findings.specs.Words.{octetsOf, rulingWords, locatedWords};
-use crate::buffer::put_word;
 use findings::Located;
 use findings::Ruling;
 
@@ -14,17 +13,17 @@ pub fn put_refusal(answer: &mut [u8], at: usize, number: u32, table: u32, row: u
     requires { ⌜ at + 12 ≤ length (now answer) ⌝ }
     ensures { λ _. ⌜ now (answer .exit) ≡ sets (now (answer .entry)) at (octetsOf (number ∷ table ∷ row ∷ [])) ⌝ }
 {
-    put_word(answer, at, number as usize);
-    put_word(answer, at + 4, table as usize);
-    put_word(answer, at + 8, row as usize);
+    octets::put_word(answer, at, number as usize);
+    octets::put_word(answer, at + 4, table as usize);
+    octets::put_word(answer, at + 8, row as usize);
 }
 
 fn put_five(answer: &mut [u8], kind: usize, i: usize, number: u32, table: u32, row: u32)
     requires { ⌜ 20 ≤ length (now answer) ⌝ }
     ensures { λ _. ⌜ now (answer .exit) ≡ sets (now (answer .entry)) 0 (octetsOf (kind ∷ i ∷ number ∷ table ∷ row ∷ [])) ⌝ }
 {
-    put_word(answer, 0, kind);
-    put_word(answer, 4, i);
+    octets::put_word(answer, 0, kind);
+    octets::put_word(answer, 4, i);
     put_refusal(answer, 8, number, table, row);
 }
 
@@ -32,7 +31,7 @@ fn put_four(answer: &mut [u8], i: usize, number: u32, table: u32, row: u32)
     requires { ⌜ 16 ≤ length (now answer) ⌝ }
     ensures { λ _. ⌜ now (answer .exit) ≡ sets (now (answer .entry)) 0 (octetsOf (i ∷ number ∷ table ∷ row ∷ [])) ⌝ }
 {
-    put_word(answer, 0, i);
+    octets::put_word(answer, 0, i);
     put_refusal(answer, 4, number, table, row);
 }
 

@@ -1,24 +1,10 @@
 // Findings put into the caller's buffer, one by one.
 ghost use mathlib.Core.Path.{_≡_};
-ghost use Prim.Native.Nat.{_+_, _<_, _≤_, _^_, min};
-ghost use lib.ListN.{length};
-ghost use lib.Seq.{sets};
-ghost use Rattle.octets.specs.Octets.{word};
+ghost use Prim.Native.Nat.{_+_, _<_, _^_, min};
 ghost use Rattle.findings.specs.Findings.{found};
 ghost use Rattle.report.specs.Buffers.{findingOf, putOne, Added};
 use crate::Tally;
 use rules::Judgment;
-
-// A number's lowest four octets, the lowest first.
-pub fn put_word(out: &mut [u8], at: usize, w: usize)
-    requires { ⌜ at + 4 ≤ length (now out) ⌝ }
-    ensures { λ _. ⌜ now (out .exit) ≡ sets (now (out .entry)) at (word w) ⌝ }
-{
-    out[at] = (w % 256) as u8;
-    out[at + 1] = (w / 256 % 256) as u8;
-    out[at + 2] = (w / 65536 % 256) as u8;
-    out[at + 3] = (w / 16777216 % 256) as u8;
-}
 
 // Finding number n, where there is room for it.
 fn put_finding(out: &mut [u8], n: usize, code: u32, row: usize, partner: usize)
@@ -26,9 +12,9 @@ fn put_finding(out: &mut [u8], n: usize, code: u32, row: usize, partner: usize)
 {
     if n < out.len() / 4 / 3 {
         let at = 12 * n;
-        put_word(out, at, code as usize);
-        put_word(out, at + 4, row);
-        put_word(out, at + 8, partner);
+        octets::put_word(out, at, code as usize);
+        octets::put_word(out, at + 4, row);
+        octets::put_word(out, at + 8, partner);
     }
 }
 

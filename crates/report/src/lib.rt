@@ -10,7 +10,6 @@ mod walk;
 pub use answers::put_located;
 pub use answers::put_refusal;
 pub use answers::put_ruling;
-pub use buffer::put_word;
 pub use full::report;
 pub use rulings::verdict;
 pub use search::lookup;

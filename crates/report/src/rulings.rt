@@ -90,6 +90,7 @@ fn rule(
         names,
         &mut kept,
         work,
+        survey::unknown(),
         none,
         code,
         table,

@@ -18,11 +18,15 @@ pub use contents::is_of_type;
 pub use extensions::extension_passes;
 pub use extensions::first_extension;
 pub use extensions::is_text;
+pub use matrices::at_level;
+pub use matrices::breaks_531;
 pub use matrices::first_matrix;
 pub use matrices::matrix_passes;
 pub use references::first_id;
+pub use sets::breaks_162;
 pub use sets::first_set;
 pub use sets::set_passes;
+pub use tiles::at_address;
 pub use tiles::first_tile;
 pub use tiles::tile_passes;
 

@@ -20,7 +20,7 @@ fn matrix_named(names: &[u8], x: Name, q: MatrixRow) -> bool
     octets::same_name(names, x, q.name)
 }
 
-fn at_level(names: &[u8], x: Name, zoom: u64, q: MatrixRow) -> bool
+pub fn at_level(names: &[u8], x: Name, zoom: u64, q: MatrixRow) -> bool
     ensures { λ r. ⌜ r ≡ atLevel (spell (now (names .entry)) x) (signed zoom) (matrixOf (now (names .entry)) q) ⌝ }
 {
     if octets::is_equal(zoom, q.zoom) {
@@ -89,7 +89,7 @@ fn is_finer(names: &[u8], m: MatrixRow, q: MatrixRow) -> bool
     false
 }
 
-fn breaks_531(names: &[u8], m: MatrixRow, q: MatrixRow) -> bool
+pub fn breaks_531(names: &[u8], m: MatrixRow, q: MatrixRow) -> bool
     ensures { λ r. ⌜ r ≡ breaks531 (matrixOf (now (names .entry)) m) (matrixOf (now (names .entry)) q) ⌝ }
 {
     if octets::is_less(q.zoom, m.zoom) {

@@ -28,7 +28,7 @@ fn is_id(names: &[u8], c: ContentsRow, id: u64) -> bool
     false
 }
 
-fn breaks_162(names: &[u8], c: ContentsRow, q: SetRow) -> bool
+pub fn breaks_162(names: &[u8], c: ContentsRow, q: SetRow) -> bool
     ensures { λ r. ⌜ r ≡ breaks162 (contentOf (now (names .entry)) c) (setOf (now (names .entry)) q) ⌝ }
 {
     if is_id(names, c, q.srs_id) {

@@ -18,7 +18,7 @@ fn tile_named(names: &[u8], x: Name, q: TileRow) -> bool
     octets::same_name(names, x, q.name)
 }
 
-fn at_address(names: &[u8], x: Name, zoom: u64, column: u64, row: u64, q: TileRow) -> bool
+pub fn at_address(names: &[u8], x: Name, zoom: u64, column: u64, row: u64, q: TileRow) -> bool
     ensures { λ r. ⌜ r ≡ atAddress (spell (now (names .entry)) x) (signed zoom) (signed column) (signed row) (tileOf (now (names .entry)) q) ⌝ }
 {
     if octets::is_equal(zoom, q.zoom) {

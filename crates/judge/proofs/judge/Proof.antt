@@ -3,9 +3,10 @@ use Rattle.judge.proofs.Others.{no-code}
 use Rattle.pack.specs.Tables.{setOf, matrixOf, tileOf}
 use Rattle.rules.specs.References.{of112, of113, lacksId}
 use Rattle.rules.specs.Sets.{of391, of411}
-use Rattle.rules.specs.Matrices.{of431, of461, of471, of481, of491, of501, of511, of521}
-use Rattle.rules.specs.Tiles.{of341}
+use Rattle.rules.specs.Matrices.{of431, of451, of452, of461, of471, of481, of491, of501, of511, of521}
+use Rattle.rules.specs.Tiles.{of341, of561, of571}
 use Rattle.rules.specs.Codes.{judged}
+use Rattle.judge.specs.Plans.{planOf}
 use borrow.Author.Needs.{needs}
 use Rattle.judge.proofs.judge.Statement.{statement}
 use Rattle.judge.proofs.judge.Tie as tie
@@ -14,7 +15,7 @@ no-code-returns : tie.Need-returns-36
 no-code-returns c = no-code _ _ _ (c .match .rest)
 
 pub judge-spec : {M : Type 1} → statement M
-unfolding judged of112 of113 of341 of391 of411 lacksId of431 of461 of471 of481 of491 of501 of511 of521 setOf matrixOf tileOf
+unfolding judged planOf of112 of113 of341 of391 of411 lacksId of431 of451 of452 of461 of471 of481 of491 of501 of511 of521 of561 of571 setOf matrixOf tileOf
 judge-spec =
     tie.close
     (tie.spec (λ c κs. search needs)
@@ -34,6 +35,27 @@ judge-spec =
     (λ c κs. search needs)
     (λ c κs. search needs)
     (λ c κs. search needs)
+    (λ c κs. rw (c .before .match .keys9) at (c .before .before .before .before .before .before .before .before .before .before .before .pre .0))
+    (λ c κs. search needs)
+    (λ c κs. (rw (c .before .match .keys10) at (c .before .before .before .before .before .before .before .before .before .before .before .pre .0), rw (c .before .match .keys10) at (c .before .before .before .before .before .before .before .before .before .before .before .pre .1)))
+    (λ c κs. search needs)
+    (λ c κs. rw (c .before .match .keys11) at (c .before .before .before .before .before .before .before .before .before .before .before .pre .0))
+    (λ c κs. search needs)
+    (λ c κs. rw (c .before .match .keys12) at (c .before .before .before .before .before .before .before .before .before .before .before .pre .0))
+    (λ c κs. search needs)
+    (λ c κs. rw (c .before .match .keys13) at (c .before .before .before .before .before .before .before .before .before .before .before .pre .0))
+    (λ c κs. search needs)
+    (λ c κs. search needs)
+    (λ c κs. search needs)
+    (λ c κs. rw (c .before .match .keys15) at (c .before .before .before .before .before .before .before .before .before .before .before .pre .0))
+    (λ c κs. search needs)
+    (λ c κs. rw (c .before .match .keys16) at (c .before .before .before .before .before .before .before .before .before .before .before .pre .0))
+    (λ c κs. search needs)
+    (λ c κs. rw (c .before .match .keys17) at (c .before .before .before .before .before .before .before .before .before .before .before .pre .0))
+    (λ c κs. search needs)
+    (λ c κs. rw (c .before .match .keys18) at (c .before .before .before .before .before .before .before .before .before .before .before .pre .0))
+    (λ c κs. search needs)
+    (λ c κs. rw (c .before .match .keys19) at (c .before .before .before .before .before .before .before .before .before .before .before .pre .0))
     (λ c κs. search needs)
     (λ c κs. search needs)
     (λ c κs. search needs)
@@ -49,36 +71,15 @@ judge-spec =
     (λ c κs. search needs)
     (λ c κs. search needs)
     (λ c κs. search needs)
+    (λ c κs. rw (c .before .match .keys27) at (c .before .before .before .before .before .before .before .before .before .before .before .pre .0))
     (λ c κs. search needs)
     (λ c κs. search needs)
     (λ c κs. search needs)
+    (λ c κs. (rw (c .before .match .keys29) at (c .before .before .before .before .before .before .before .before .before .before .before .pre .0), rw (c .before .match .keys29) at (c .before .before .before .before .before .before .before .before .before .before .before .pre .1)))
     (λ c κs. search needs)
+    (λ c κs. rw (c .before .match .keys30) at (c .before .before .before .before .before .before .before .before .before .before .before .pre .0))
     (λ c κs. search needs)
-    (λ c κs. search needs)
-    (λ c κs. search needs)
-    (λ c κs. search needs)
-    (λ c κs. search needs)
-    (λ c κs. search needs)
-    (λ c κs. search needs)
-    (λ c κs. search needs)
-    (λ c κs. search needs)
-    (λ c κs. search needs)
-    (λ c κs. search needs)
-    (λ c κs. search needs)
-    (λ c κs. search needs)
-    (λ c κs. search needs)
-    (λ c κs. search needs)
-    (λ c κs. search needs)
-    (λ c κs. search needs)
-    (λ c κs. search needs)
-    (λ c κs. search needs)
-    (λ c κs. search needs)
-    (λ c κs. search needs)
-    (λ c κs. search needs)
-    (λ c κs. search needs)
-    (λ c κs. search needs)
-    (λ c κs. search needs)
-    (λ c κs. search needs)
+    (λ c κs. rw (c .before .match .keys31) at (c .before .before .before .before .before .before .before .before .before .before .before .pre .0))
     (λ c κs. search needs)
     (λ c κs. search needs)
     (λ c κs. search needs)
@@ -104,8 +105,8 @@ judge-spec =
     (λ c. simp (c .before .before .match .keys15, ← c .before .matrix-at2 .ensures) (c .unless-tiles-name3 .ensures))
     (λ c. simp (c .before .before .match .keys16, ← c .before .matrix-at3 .ensures) (c .of-432 .ensures))
     (λ c. simp (c .before .before .match .keys17, ← c .before .tile-at2 .ensures) (c .of-441 .ensures))
-    (λ c. simp (c .before .before .match .keys18, ← c .before .matrix-at4 .ensures) (c .of-451 .ensures))
-    (λ c. simp (c .before .before .match .keys19, ← c .before .matrix-at5 .ensures) (c .of-452 .ensures))
+    (λ c. simp (c .before .before .match .keys18, ← c .before .matrix-at4 .ensures) (c .of-measured .ensures))
+    (λ c. simp (c .before .before .match .keys19, ← c .before .matrix-at5 .ensures) (c .of-measured2 .ensures))
     (λ c. simp (c .before .before .match .keys20, ← c .before .matrix-at6 .ensures) (c .if-below .ensures))
     (λ c. simp (c .before .before .match .keys21, ← c .before .matrix-at7 .ensures) (c .if-below2 .ensures))
     (λ c. simp (c .before .before .match .keys22, ← c .before .matrix-at8 .ensures) (c .if-below3 .ensures))
@@ -116,8 +117,8 @@ judge-spec =
     (λ c. simp (c .before .before .match .keys27, ← c .before .matrix-at13 .ensures) (c .of-531 .ensures))
     (λ c. simp (c .before .before .match .keys28, ← c .before .tile-at3 .ensures) (c .of-541 .ensures))
     (λ c. simp (c .before .before .match .keys29, ← c .before .tile-at4 .ensures) (c .of-551 .ensures))
-    (λ c. simp (c .before .before .match .keys30, ← c .before .tile-at5 .ensures) (c .of-561 .ensures))
-    (λ c. simp (c .before .before .match .keys31, ← c .before .tile-at6 .ensures) (c .of-571 .ensures))
+    (λ c. simp (c .before .before .match .keys30, ← c .before .tile-at5 .ensures) (c .of-placed .ensures))
+    (λ c. simp (c .before .before .match .keys31, ← c .before .tile-at6 .ensures) (c .of-placed2 .ensures))
     (λ c. simp (c .before .before .match .keys32, ← c .before .extension-at .ensures) (c .of-601 .ensures))
     (λ c. simp (c .before .before .match .keys33, ← c .before .extension-at2 .ensures) (c .of-621 .ensures))
     (λ c. simp (c .before .before .match .keys34, ← c .before .extension-at3 .ensures) (c .of-622 .ensures))

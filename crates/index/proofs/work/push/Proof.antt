@@ -14,4 +14,7 @@ push-spec =
     (λ c. search needs)
     (λ c κs. search needs)
     (λ c. search needs)
-    (λ c. cc))
+    (λ c. search needs)
+    (λ c κs. search needs)
+    (λ c. search needs)
+    (λ c. simp (← c .before .before .before .print .ensures .0) (cc)))

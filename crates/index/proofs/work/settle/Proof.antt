@@ -11,5 +11,6 @@ settle-spec =
     tie.close
     (tie.spec (λ c. simp (lt-ltb _ _ (c .if1 .taken)))
     (λ c κs. search needs)
+    (λ c κs. search needs)
     (λ c. search needs)
-    (λ c. simp (le-ltb _ _ (c .before .before .before .before .if1 .left)) (c .before .before .push .ensures)))
+    (λ c. simp (le-ltb _ _ (c .before .before .before .before .before .if1 .left), ← c .before .before .before .place .ensures .0) (c .before .before .push .ensures)))

@@ -14,5 +14,5 @@ of-162-spec =
     (λ c. search needs)
     (λ c κs. search needs)
     (λ c κs. search needs)
-    (λ c. simp (← c .before .before .before .is-of-type .ensures, c .before .before .if1 .taken, ← c .before .first-set .ensures) (c .partner-of .ensures))
+    (λ c. simp (← c .before .before .before .is-of-type .ensures, c .before .before .if1 .taken, ← c .before .first-162 .ensures) (c .partner-of .ensures))
     (λ c. simp (← c .before .is-of-type .ensures, c .if1 .left)))

@@ -12,4 +12,4 @@ of-531-spec =
     (λ c. search needs)
     (λ c κs. search needs)
     (λ c κs. search needs)
-    (λ c. simp (← c .before .first-matrix .ensures) (c .partner-of .ensures)))
+    (λ c. simp (← c .before .lowest-531 .ensures) (c .partner-of .ensures)))

@@ -3,7 +3,8 @@ use Prim.Native.Nat.{_-_}
 use mathlib.Core.Path.{_≡_, refl}
 use lib.ListN.{length}
 use Rattle.pack.specs.Tables.{contentsOf, matricesOf, tilesOf}
-use Rattle.index.specs.Keys.{TileIndexed}
+use Rattle.index.specs.declared.Kind.the-variants.{Address}
+use Rattle.index.specs.Keys.{Indexes}
 use Rattle.index.specs.WorkLaws.{keyed-start}
 use Rattle.report.specs.Walks.{at541}
 use Rattle.report.specs.WalkLaws.{Walking, walk-start, walk-room, walk-end, more-541}
@@ -13,7 +14,7 @@ use Rattle.report.proofs.tiles.add_541.Tie as tie
 
 abbrev Inv-loop : tie.InvT-loop
 Inv-loop tiles names out₀ work₀ n m tally₀ i₀ out work tally i =
-    Walking (at541 (tilesOf tiles names)) out₀ tally₀ n i out tally × TileIndexed tiles names work m i × (length work ≡ length work₀)
+    Walking (at541 (tilesOf tiles names)) out₀ tally₀ n i out tally × Indexes Address tiles names work m i × (length work ≡ length work₀)
 
 abbrev μ-loop : tie.MeasureT-loop
 μ-loop tiles names out₀ work₀ n m tally₀ i₀ out work tally i = n - i

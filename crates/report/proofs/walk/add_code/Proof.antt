@@ -16,14 +16,14 @@ add-code-spec =
     (λ c κs.
     let r = c .before .before in
     let st = r .before .before .before .before .before .before .before .before .before .before in
-    (r .rows-in .ensures, omega (arith, r .rows-in .ensures, st .pre .0 (st .args .table), st .pre .1)))
+    (st .pre .0, (r .rows-in .ensures, omega (arith, r .rows-in .ensures, st .pre .1 .0 (st .args .table), st .pre .1 .1))))
     (λ c κs. search needs)
     (λ c κs.
     let q = c .before .before .before .before .before .before in
     let r = q .before .before .before in
     let st = r .before .before .before .before .before .before .before .before .before .before in
     let a = st .args in
-    omega (arith, q .add-table-rows .ensures .count, rows-length (packFrom (a .references .now) (a .contents .now) (a .sets .now) (a .matrices .now) (a .tiles .now) (a .extensions .now) (a .names .now)) (a .code) (r .rows-in .result), r .rows-in .ensures, st .pre .0 (a .table), st .pre .1))
+    omega (arith, q .add-table-rows .ensures .count, rows-length (packFrom (a .references .now) (a .contents .now) (a .sets .now) (a .matrices .now) (a .tiles .now) (a .extensions .now) (a .names .now)) (a .code) (r .rows-in .result), r .rows-in .ensures, st .pre .1 .0 (a .table), st .pre .1 .1))
     (λ c. search needs)
     (λ c. search needs)
     (λ c.

@@ -1,0 +1,34 @@
+-- `index::addresses/walk_address` meets its contract.
+use Prim.Native.Nat.{_%_}
+use native.Mathlib.Omega.{arith}
+use Rattle.index.specs.declared.Kind.the-variants.{Address}
+use Rattle.index.specs.Keys.{answers, addressOf}
+use Rattle.index.specs.Work.{placeOf, printOf}
+use Rattle.index.proofs.Walks.{Walking, leads-some, leads-room, walking-row, walking-print, walks}
+use borrow.Author.Needs.{needs}
+use Rattle.index.proofs.addresses.walk_address.Statement.{statement}
+use Rattle.index.proofs.addresses.walk_address.Tie as tie
+
+abbrev Inv-loop : tie.InvT-loop
+Inv-loop tiles names work m y a n p x₀ x = Walking (answers Address tiles names (addressOf names a)) work m (placeOf m y) (printOf y) n x
+
+abbrev μ-loop : tie.MeasureT-loop
+μ-loop tiles names work m y a n p x₀ x = x % 524288
+
+pub walk-address-spec : {M : Type 1} → statement M
+walk-address-spec =
+    tie.close
+    (tie.spec Inv-loop
+    μ-loop
+    (λ c κs. search needs)
+    (λ c κs. (leads-some (c .before .before .before .before .pre .0), c .before .before .before .before .pre .1 .0, c .before .before .before .before .pre .1 .1))
+    (λ c κs. omega (arith, leads-room (c .before .before .before .before .before .pre .0), c .place .ensures))
+    (λ c. search (rw (c .before .place .ensures .0) at (c .word-at .ensures), walks))
+    (λ c. omega (arith, walking-row (c .before .loop .inv) (c .loop-test .taken)))
+    (λ c κs. search (rw (← c .before .before .before .before .print .ensures .0) at (walking-print (c .before .loop .inv) (c .loop-test .taken)), needs))
+    (λ c. search walks)
+    (λ c. omega (arith, walking-row (c .before .before .before .loop .inv) (c .before .before .loop-test .taken)))
+    (λ c κs. omega (arith, walking-row (c .before .before .before .loop .inv) (c .before .before .loop-test .taken)))
+    (λ c. search walks)
+    (λ c. search walks)
+    (λ c. search walks))

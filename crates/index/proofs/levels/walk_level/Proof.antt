@@ -1,0 +1,36 @@
+-- `index::levels/walk_level` meets its contract.
+use Prim.Native.Nat.{_%_}
+use native.Mathlib.Omega.{arith}
+use Rattle.octets.specs.Numbers.{signed}
+use Rattle.octets.specs.Texts.{spell}
+use Rattle.pack.specs.Tables.{matricesOf}
+use Rattle.rules.specs.Matrices.{atLevel}
+use Rattle.index.specs.Work.{placeOf, printOf}
+use Rattle.index.proofs.Walks.{Walking, leads-some, leads-room, walking-row, walking-print, walks}
+use borrow.Author.Needs.{needs}
+use Rattle.index.proofs.levels.walk_level.Statement.{statement}
+use Rattle.index.proofs.levels.walk_level.Tie as tie
+
+abbrev Inv-loop : tie.InvT-loop
+Inv-loop matrices names work m y name zoom n p x₀ x = Walking (λ k. atLevel (spell names name) (signed zoom) (matricesOf matrices names .row k)) work m (placeOf m y) (printOf y) n x
+
+abbrev μ-loop : tie.MeasureT-loop
+μ-loop matrices names work m y name zoom n p x₀ x = x % 524288
+
+pub walk-level-spec : {M : Type 1} → statement M
+walk-level-spec =
+    tie.close
+    (tie.spec Inv-loop
+    μ-loop
+    (λ c κs. search needs)
+    (λ c κs. (leads-some (c .before .before .before .before .pre .0), c .before .before .before .before .pre .1 .0, c .before .before .before .before .pre .1 .1))
+    (λ c κs. omega (arith, leads-room (c .before .before .before .before .before .pre .0), c .place .ensures))
+    (λ c. search (rw (c .before .place .ensures .0) at (c .word-at .ensures), walks))
+    (λ c. omega (arith, walking-row (c .before .loop .inv) (c .loop-test .taken)))
+    (λ c κs. search (rw (← c .before .before .before .before .print .ensures .0) at (walking-print (c .before .loop .inv) (c .loop-test .taken)), needs))
+    (λ c. search walks)
+    (λ c. omega (arith, walking-row (c .before .before .before .loop .inv) (c .before .before .loop-test .taken)))
+    (λ c κs. omega (arith, walking-row (c .before .before .before .loop .inv) (c .before .before .loop-test .taken)))
+    (λ c. search walks)
+    (λ c. search walks)
+    (λ c. search walks))

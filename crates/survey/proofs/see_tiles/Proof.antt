@@ -1,0 +1,38 @@
+-- `survey::see_tiles` meets its contract.
+use Prim.Native.Nat.{_-_}
+use Rattle.pack.specs.Tables.{matricesOf, tilesOf}
+use Rattle.survey.specs.Surveys.{levelAt, columnAt, rowAt}
+use Rattle.survey.proofs.Looking.{Looking, look-start, look-end, more-level, more-column, more-row}
+use borrow.Author.Needs.{needs}
+use Rattle.survey.proofs.see_tiles.Statement.{statement}
+use Rattle.survey.proofs.see_tiles.Tie as tie
+
+abbrev Inv-loop : tie.InvT-loop
+Inv-loop matrices tiles names work n m levels₀ columns₀ rows₀ i₀ levels columns rows i =
+    Looking (levelAt (matricesOf matrices names) (tilesOf tiles names)) n i levels
+    × Looking (columnAt (matricesOf matrices names) (tilesOf tiles names)) n i columns
+    × Looking (rowAt (matricesOf matrices names) (tilesOf tiles names)) n i rows
+
+abbrev μ-loop : tie.MeasureT-loop
+μ-loop matrices tiles names work n m levels₀ columns₀ rows₀ i₀ levels columns rows i = n - i
+
+pub see-tiles-spec : {M : Type 1} → statement M
+see-tiles-spec =
+    tie.close
+    (tie.spec Inv-loop
+    μ-loop
+    (λ c κs. search needs)
+    (λ c. (search (look-start, needs), search (look-start, needs), search (look-start, needs)))
+    (λ c. search needs)
+    (λ c κs. search needs)
+    (λ c κs. search needs)
+    (λ c κs. search needs)
+    (λ c κs. search needs)
+    (λ c κs. search needs)
+    (λ c κs. search needs)
+    (λ c κs. search needs)
+    (λ c κs. search needs)
+    (λ c. search needs)
+    (λ c. (search (more-level, needs), search (more-column, needs), search (more-row, needs)))
+    (λ c. search needs)
+    (λ c. (search (look-end, needs), (search (look-end, needs), search (look-end, needs)))))

@@ -1,0 +1,187 @@
+// A look over a pack before its report: of which codes there is no finding.
+ghost use mathlib.Core.Path.{_≡_};
+ghost use Prim.Native.Nat.{_/_};
+ghost use lib.ListN.{length};
+ghost use Rattle.pack.specs.Rows.{Pack};
+ghost use Rattle.pack.specs.Tables.{contentsOf, matricesOf, tilesOf, packFrom};
+ghost use Rattle.survey.specs.Surveys.{seenAfter, stepAt, namedAt, levelAt, columnAt, rowAt, Quiet, Surveyed, quietTile, quietMatrix, quietBy};
+use index::Kind;
+use judge::Axis;
+use rules::Judgment;
+
+// Whether a finding was seen, 0 for no: 351 but for its gates, 431, 441, 561, 571.
+pub struct Survey {
+    pub steps: usize,
+    pub names: usize,
+    pub levels: usize,
+    pub columns: usize,
+    pub rows: usize,
+}
+
+// What is seen of the tiles.
+struct Places {
+    pub levels: usize,
+    pub columns: usize,
+    pub rows: usize,
+}
+
+fn see(seen: usize, v: Judgment) -> usize
+    ensures { λ r. ⌜ r ≡ seenAfter seen v ⌝ }
+{
+    match v {
+        Judgment::Clean => seen,
+        Judgment::Hit(_) => 1,
+    }
+}
+
+fn see_steps(matrices: &[u8], names: &[u8], work: &mut [u8]) -> usize
+    ensures { λ r. ⌜ Quiet (stepAt (matricesOf (now (matrices .entry)) (now (names .entry)))) (length (now (matrices .entry)) / 64) r ⌝ }
+{
+    let n = matrices.len() / 64;
+    let m = index::shelve(matrices, names, work, Kind::Level);
+    let mut seen = 0;
+    let mut i = 0;
+    while i < n {
+        let next = i + 1;
+        let q = pack::matrix_at(matrices, i);
+        let k = judge::first_step(matrices, names, work, m, q);
+        let v = judge::partner_of(k, n);
+        seen = see(seen, v);
+        i = next;
+    }
+    seen
+}
+
+fn see_names(contents: &[u8], matrices: &[u8], names: &[u8], work: &mut [u8]) -> usize
+    ensures { λ r. ⌜ Quiet (namedAt (contentsOf (now (contents .entry)) (now (names .entry))) (matricesOf (now (matrices .entry)) (now (names .entry)))) (length (now (matrices .entry)) / 64) r ⌝ }
+{
+    let n = matrices.len() / 64;
+    let m = index::index_all(contents, names, work, Kind::TilesName);
+    let mut seen = 0;
+    let mut i = 0;
+    while i < n {
+        let next = i + 1;
+        let q = pack::matrix_at(matrices, i);
+        let v = judge::unless_tiles_name(contents, names, work, m, q.name);
+        seen = see(seen, v);
+        i = next;
+    }
+    seen
+}
+
+fn see_tiles(matrices: &[u8], tiles: &[u8], names: &[u8], work: &mut [u8]) -> Places
+    ensures { λ r. ⌜ Quiet (levelAt (matricesOf (now (matrices .entry)) (now (names .entry))) (tilesOf (now (tiles .entry)) (now (names .entry)))) (length (now (tiles .entry)) / 32) (r .levels) ⌝ }
+    ensures { λ r. ⌜ Quiet (columnAt (matricesOf (now (matrices .entry)) (now (names .entry))) (tilesOf (now (tiles .entry)) (now (names .entry)))) (length (now (tiles .entry)) / 32) (r .columns) ⌝ }
+    ensures { λ r. ⌜ Quiet (rowAt (matricesOf (now (matrices .entry)) (now (names .entry))) (tilesOf (now (tiles .entry)) (now (names .entry)))) (length (now (tiles .entry)) / 32) (r .rows) ⌝ }
+{
+    let n = tiles.len() / 32;
+    let m = index::index_all(matrices, names, work, Kind::Level);
+    let mut levels = 0;
+    let mut columns = 0;
+    let mut rows = 0;
+    let mut i = 0;
+    while i < n {
+        let next = i + 1;
+        let t = pack::tile_at(tiles, i);
+        let k = index::find_level(matrices, names, work, m, t.name, t.zoom);
+        let u = judge::unless_found(k, matrices.len() / 64);
+        let v = judge::placed(matrices, names, Axis::X, t, k);
+        let w = judge::placed(matrices, names, Axis::Y, t, k);
+        levels = see(levels, u);
+        columns = see(columns, v);
+        rows = see(rows, w);
+        i = next;
+    }
+    Places {
+        levels,
+        columns,
+        rows,
+    }
+}
+
+// Looks over the pack.
+pub fn look(
+    references: &[u8],
+    contents: &[u8],
+    sets: &[u8],
+    matrices: &[u8],
+    tiles: &[u8],
+    extensions: &[u8],
+    names: &[u8],
+    work: &mut [u8],
+) -> Survey
+    ensures { λ r. ⌜ Surveyed (packFrom (now (references .entry)) (now (contents .entry)) (now (sets .entry)) (now (matrices .entry)) (now (tiles .entry)) (now (extensions .entry)) (now (names .entry))) r ⌝ }
+{
+    let steps = see_steps(matrices, names, work);
+    let named = see_names(contents, matrices, names, work);
+    let places = see_tiles(matrices, tiles, names, work);
+    Survey {
+        steps,
+        names: named,
+        levels: places.levels,
+        columns: places.columns,
+        rows: places.rows,
+    }
+}
+
+// Nothing is known: for whoever asks for one code, and needs no look over the pack.
+pub fn unknown() -> Survey
+    ensures { λ r. ⌜ ((p : Pack) → Surveyed p r) ⌝ }
+{
+    Survey {
+        steps: 1,
+        names: 1,
+        levels: 1,
+        columns: 1,
+        rows: 1,
+    }
+}
+
+fn is_quiet_tile(s: Survey, code: u32) -> bool
+    ensures { λ r. ⌜ r ≡ quietTile s code ⌝ }
+{
+    if code == 341 {
+        if s.names == 0 {
+            return s.levels == 0;
+        }
+        return false;
+    }
+    if code == 441 {
+        return s.levels == 0;
+    }
+    if code == 551 {
+        return s.levels == 0;
+    }
+    if code == 561 {
+        return s.columns == 0;
+    }
+    if code == 571 {
+        return s.rows == 0;
+    }
+    false
+}
+
+fn is_quiet_matrix(s: Survey, code: u32) -> bool
+    ensures { λ r. ⌜ r ≡ quietMatrix s code ⌝ }
+{
+    if code == 351 {
+        return s.steps == 0;
+    }
+    if code == 431 {
+        return s.names == 0;
+    }
+    false
+}
+
+// Whether a code of a table has no finding on a row, as far as the survey tells.
+pub fn is_quiet(s: Survey, code: u32, table: u32) -> bool
+    ensures { λ r. ⌜ r ≡ quietBy s code table ⌝ }
+{
+    if table == 5 {
+        return is_quiet_tile(s, code);
+    }
+    if table == 4 {
+        return is_quiet_matrix(s, code);
+    }
+    false
+}
