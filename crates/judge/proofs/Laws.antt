@@ -1,6 +1,6 @@
 -- What the rules' proofs share beyond the laws of tests.
 use Prim.Native.Nat.{ℕ, _<_, _≤_}
-use mathlib.Core.Path.{_≡_, refl, ap}
+use mathlib.Core.Path.{_≡_, refl, ap, _∙_}
 use mathlib.Core.Bool.{Bool, true, false, cond, not}
 use mathlib.Core.List.{List, []}
 use borrow.Author.Needs.{needs}
@@ -13,6 +13,7 @@ use Rattle.rules.specs.Judgments.{none, partner}
 use Rattle.rules.specs.Extensions.{lacks601}
 use Rattle.rules.specs.declared.Judgment.{Judgment}
 use Rattle.rules.specs.declared.Judgment.the-variants.{Clean, Hit}
+use Rattle.index.specs.WorkLaws.{partner-of-all}
 use Rattle.seek.specs.TestLaws.{was-yes, was-no, tests}
 
 -- a test, and its outcome, the other way round
@@ -83,3 +84,11 @@ no-column Null = refl
 pub no-name : isExtensionName [] ≡ false
 unfolding isExtensionName inside first any
 no-name = refl
+
+-- an earlier row with the same key: the lowest of all rows is the lowest of those before row i, where there is one
+pub before-row : (p : ℕ → Bool) (i n k : ℕ) (v : Judgment) → i ≤ n → k ≡ first p n → v ≡ partner k i → v ≡ partner (first p i) i
+before-row p i n k v l e f = f ∙ ap (λ (r : ℕ). partner r i) e ∙ partner-of-all p i n l
+
+-- searched among those before it
+pub at-row : (p : ℕ → Bool) (i k : ℕ) (v : Judgment) → k ≡ first p i → v ≡ partner k i → v ≡ partner (first p i) i
+at-row p i k v e f = f ∙ ap (λ (r : ℕ). partner r i) e

@@ -2,8 +2,11 @@
 ghost use mathlib.Core.Path.{_≡_};
 ghost use mathlib.Core.Bool.{cond};
 ghost use lib.Dec.{ltb};
+ghost use Rattle.octets.specs.Search.{first};
+ghost use Rattle.index.specs.Keys.{rowCount, answers, kindOf, meaning, Indexes};
 ghost use Rattle.rules.specs.Judgments.{none, faultIf, partner};
 ghost use Rattle.rules.specs.declared.Judgment.the-variants.{Clean, Hit};
+use index::Key;
 use rules::Judgment;
 
 // A finding without a partner.
@@ -39,4 +42,22 @@ pub fn unless_found(r: usize, n: usize) -> Judgment
     } else {
         Judgment::Hit(NONE)
     }
+}
+
+// A finding with the lowest of the rows before row i that answers to a key. An index has the rows of the table; past its end it has none.
+pub fn with_earlier(
+    rows: &[u8],
+    names: &[u8],
+    work: &[u8],
+    m: usize,
+    key: Key,
+    i: usize,
+) -> Judgment
+    requires { ⌜ Indexes (kindOf key) (now rows) (now names) (now work) m (rowCount (kindOf key) (now rows)) ⌝ }
+    ensures { λ r. ⌜ r ≡ partner (first (answers (kindOf key) (now (rows .entry)) (now (names .entry)) (meaning (now (names .entry)) key)) i) i ⌝ }
+{
+    if i <= index::count(rows, index::kind_of(key)) {
+        return partner_of(index::find(rows, names, work, m, key), i);
+    }
+    partner_of(index::first_answer(rows, names, key, i), i)
 }

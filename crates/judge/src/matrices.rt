@@ -18,6 +18,7 @@ ghost use Rattle.judge.specs.Axes.{fitsAlong, ofMeasured};
 use crate::Axis;
 use crate::judgments::fault_if;
 use crate::judgments::partner_of;
+use crate::judgments::with_earlier;
 use crate::sets::first_named;
 use doubles::Extent;
 use index::Key;
@@ -119,7 +120,6 @@ pub fn first_level(
     index::find_level(matrices, names, work, m, x, zoom)
 }
 
-// Of a row of the table, the index has the rows before it; past its end there is none.
 pub fn of_432(
     matrices: &[u8],
     names: &[u8],
@@ -131,12 +131,15 @@ pub fn of_432(
     requires { ⌜ Indexes Level (now matrices) (now names) (now work) m (length (now matrices) / 64) ⌝ }
     ensures { λ r. ⌜ r ≡ of432 (matricesOf (now (matrices .entry)) (now (names .entry))) (matrixOf (now (names .entry)) q) i ⌝ }
 {
-    if i <= matrices.len() / (MatrixTable::ROW as usize) {
-        return partner_of(first_level(matrices, names, work, m, q.name, q.zoom), i);
-    }
     let name = q.name;
-    let test = MatrixTest::Level { name, zoom: q.zoom };
-    partner_of(seek::first_matrix(matrices, names, test, i), i)
+    with_earlier(
+        matrices,
+        names,
+        work,
+        m,
+        Key::Level { name, zoom: q.zoom },
+        i,
+    )
 }
 
 // ---- 451, 452: k is the first set row of the matrix's name

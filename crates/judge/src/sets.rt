@@ -9,13 +9,11 @@ ghost use Rattle.rules.specs.Contents.{setNamed};
 ghost use Rattle.rules.specs.Sets.{of392};
 ghost use Rattle.index.specs.declared.Kind.the-variants.{SetName};
 ghost use Rattle.index.specs.Keys.{Indexes};
-use crate::judgments::partner_of;
+use crate::judgments::with_earlier;
 use index::Key;
-use listing::SetTable;
 use octets::Name;
 use pack::SetRow;
 use rules::Judgment;
-use seek::SetTest;
 
 // The first set row with the name, or the count.
 pub fn first_named(sets: &[u8], names: &[u8], work: &[u8], m: usize, x: Name) -> usize
@@ -25,14 +23,10 @@ pub fn first_named(sets: &[u8], names: &[u8], work: &[u8], m: usize, x: Name) ->
     index::find(sets, names, work, m, Key::SetName(x))
 }
 
-// Of a row of the table, the index has the rows before it; past its end there is none.
 pub fn of_392(sets: &[u8], names: &[u8], work: &[u8], m: usize, q: SetRow, i: usize) -> Judgment
     requires { ⌜ Indexes SetName (now sets) (now names) (now work) m (length (now sets) / 48) ⌝ }
     ensures { λ r. ⌜ r ≡ of392 (setsOf (now (sets .entry)) (now (names .entry))) (setOf (now (names .entry)) q) i ⌝ }
 {
-    if i <= sets.len() / (SetTable::ROW as usize) {
-        return partner_of(first_named(sets, names, work, m, q.name), i);
-    }
     let name = q.name;
-    partner_of(seek::first_set(sets, names, SetTest::Named(name), i), i)
+    with_earlier(sets, names, work, m, Key::SetName(name), i)
 }
