@@ -4,24 +4,19 @@ use mathlib.Core.Path.{_≡_, refl, sym, ap, _∙_}
 use mathlib.Core.List.{List}
 use mathlib.Core.Bool.{Bool, true, false, not, _&&_, and-eq-true-iff, false≢true}
 use native.Mathlib.Omega.{arith}
-use borrow.Author.Tests.{ltb-true, ltb-false, le-ltb, eqb-true}
+use borrow.Author.Tests.{ltb-true, ltb-false, eqb-true}
 use lib.Dec.{ltb}
 use lib.IntN.{ℤ, pos, negsuc, sucℤ}
 use lib.Signed.{ltZ}
 use mir.Val.{sel}
 use Rattle.octets.specs.Numbers.{signed, eqZ}
-use Rattle.octets.specs.NumberLaws.{eqZ-true}
 use Rattle.octets.specs.Texts.{same, spell}
 use Rattle.octets.specs.TextLaws.{same-equal}
-use Rattle.octets.specs.Search.{first, any}
-use Rattle.octets.specs.SearchLaws.{first-lowest, any-some}
-use Rattle.pack.specs.Rows.{Rows, Matrix, Tile}
 use Rattle.pack.specs.Tables.{matrixRow, matrixOf, matricesOf, tileOf}
 use Rattle.pack.specs.declared.MatrixRow.{MatrixRow}
 use Rattle.pack.specs.declared.TileRow.{TileRow}
-use Rattle.rules.specs.Matrices.{matrixNamed, atLevel, nearTwice, breaks351}
-use Rattle.rules.specs.Tiles.{atMost, atLeast, of551}
-use Rattle.rules.specs.declared.Judgment.the-variants.{Clean}
+use Rattle.rules.specs.Matrices.{matrixNamed, nearTwice, breaks351}
+use Rattle.rules.specs.Tiles.{atMost, atLeast}
 use Rattle.index.specs.declared.Kind.the-variants.{Level, MatrixName}
 use Rattle.index.specs.Keys.{Confines}
 
@@ -88,31 +83,3 @@ least-below p o a q = below-zero (signed a) (rw o at q)
 
 pub one-below : (p : ℕ) → p < 2 ^ 64 → (p ≡ 0 → ⊥) → (a : ℕ) → eqZ (sucℤ (signed a)) (signed p) ≡ true → signed a ≡ signed (p - 1)
 one-below p l o a q = below-by p _ _ l o refl refl (signed a) (depth-by a _ refl) q
-
--- ---- 551: a tile whose name and zoom have a matrix row is inside the range
-irreflexive : (z : ℤ) → ltZ z z ≡ false
-irreflexive (pos n) = le-ltb n n (omega arith)
-irreflexive (negsuc n) = le-ltb n n (omega arith)
-
-module _ (t : Tile) (q : Matrix) (e : atLevel (t .name) (t .zoom) q ≡ true) where
-  parts : (matrixNamed (t .name) q ≡ true) × (eqZ (t .zoom) (q .zoom) ≡ true)
-  unfolding atLevel
-  parts = and-eq-true-iff (matrixNamed (t .name) q) (eqZ (t .zoom) (q .zoom)) .0 e
-
-  level-most : atMost t q ≡ true
-  unfolding atMost
-  level-most = simp (parts .0, ← eqZ-true (t .zoom) (q .zoom) (parts .1), irreflexive (t .zoom))
-
-  level-least : atLeast t q ≡ true
-  unfolding atLeast
-  level-least = simp (parts .0, ← eqZ-true (t .zoom) (q .zoom) (parts .1), irreflexive (t .zoom))
-
-pub inside-551 : (ms : Rows Matrix) (t : Tile) (k : ℕ) → k ≡ first (λ j. atLevel (t .name) (t .zoom) (ms .row j)) (ms .count) → k < ms .count → Clean ≡ of551 ms t
-unfolding of551
-inside-551 ms t k f l =
-    let e = rw (← f) at (first-lowest (λ j. atLevel (t .name) (t .zoom) (ms .row j)) (ms .count) .here (rw f at l)) in
-    simp (
-      any-some (λ j. matrixNamed (t .name) (ms .row j)) (ms .count) k l (parts t (ms .row k) e .0),
-      any-some (λ j. atMost t (ms .row j)) (ms .count) k l (level-most t (ms .row k) e),
-      any-some (λ j. atLeast t (ms .row j)) (ms .count) k l (level-least t (ms .row k) e),
-    )

@@ -2,7 +2,7 @@
 use Prim.Native.Nat.{ℕ, _+_, _/_, _<_, _≤_, zero-le}
 use mathlib.Core.Path.{_≡_, refl, sym, ap, _∙_}
 use mathlib.Core.List.{List}
-use mathlib.Core.Bool.{Bool, true, false, cond, not}
+use mathlib.Core.Bool.{Bool, cond, not}
 use mathlib.Core.Logic.{⊎-elim}
 use native.Mathlib.Nat.{le-antisymm, eq-or-lt-of-le}
 use native.Mathlib.Numerals.{add-one-le}
@@ -18,10 +18,11 @@ use Rattle.pack.specs.Tables.{matrixRow, tileRow, matrixOf, tileOf, contentsOf,
 use Rattle.rules.specs.Judgments.{none, partner, faultIf}
 use Rattle.rules.specs.Contents.{isTilesName}
 use Rattle.rules.specs.Matrices.{atLevel, breaks351, of431}
-use Rattle.rules.specs.Tiles.{off561, off571, placed, of441, of561, of571}
+use Rattle.pack.specs.Rows.{Matrix, Tile}
+use Rattle.rules.specs.Tiles.{placed, of441}
 use Rattle.rules.specs.declared.Judgment.{Judgment}
 use Rattle.rules.specs.declared.Judgment.the-variants.{Clean, Hit}
-use Rattle.survey.specs.Surveys.{seenAfter, stepAt, namedAt, levelAt, columnAt, rowAt, Quiet}
+use Rattle.survey.specs.Surveys.{seenAfter, stepAt, namedAt, levelAt, placedAt, Quiet}
 
 -- a look has come to row i of n
 pub record Looking (f : ℕ → Judgment) (n i seen : ℕ) : Type 0 where
@@ -80,16 +81,9 @@ module _ (ms t names : List ℕ) (n i seen after : ℕ) (v : Judgment) (a : Tile
       (g ∙ ap (λ (j : ℕ). cond (ltb j m) Clean (Hit none)) f ∙ ap (λ (j : ℕ). cond (ltb (firstLevel a) j) Clean (Hit none)) s
       ∙ ap (λ (x : TileRow). cond (ltb (firstLevel x) (length ms / 64)) Clean (Hit none)) r)
 
-  pub more-column : Looking (columnAt (matricesOf ms names) (tilesOf t names)) n i seen → i < n → after ≡ seenAfter seen v
-      → v ≡ placed off561 (matricesOf ms names) (tileOf names a) k → Looking (columnAt (matricesOf ms names) (tilesOf t names)) n (i + 1) after
-  unfolding columnAt of561 tileOf
-  more-column l b e g =
-      look-more (columnAt (matricesOf ms names) (tilesOf t names)) n i seen after v l b e
-      (g ∙ ap (placed off561 (matricesOf ms names) (tileOf names a)) f ∙ ap (λ (x : TileRow). placed off561 (matricesOf ms names) (tileOf names x) (firstLevel x)) r)
-
-  pub more-row : Looking (rowAt (matricesOf ms names) (tilesOf t names)) n i seen → i < n → after ≡ seenAfter seen v
-      → v ≡ placed off571 (matricesOf ms names) (tileOf names a) k → Looking (rowAt (matricesOf ms names) (tilesOf t names)) n (i + 1) after
-  unfolding rowAt of571 tileOf
-  more-row l b e g =
-      look-more (rowAt (matricesOf ms names) (tilesOf t names)) n i seen after v l b e
-      (g ∙ ap (placed off571 (matricesOf ms names) (tileOf names a)) f ∙ ap (λ (x : TileRow). placed off571 (matricesOf ms names) (tileOf names x) (firstLevel x)) r)
+  pub more-placed : (off : Tile → Matrix → Bool) → Looking (placedAt off (matricesOf ms names) (tilesOf t names)) n i seen → i < n → after ≡ seenAfter seen v
+      → v ≡ placed off (matricesOf ms names) (tileOf names a) k → Looking (placedAt off (matricesOf ms names) (tilesOf t names)) n (i + 1) after
+  unfolding placedAt tileOf
+  more-placed off l b e g =
+      look-more (placedAt off (matricesOf ms names) (tilesOf t names)) n i seen after v l b e
+      (g ∙ ap (placed off (matricesOf ms names) (tileOf names a)) f ∙ ap (λ (x : TileRow). placed off (matricesOf ms names) (tileOf names x) (firstLevel x)) r)

@@ -4,25 +4,24 @@ use mathlib.Core.Path.{_≡_, refl, sym, ap, _∙_}
 use mathlib.Core.List.{List}
 use mathlib.Core.Bool.{Bool, true, false, cond, not, _&&_, false≢true, and-eq-true-iff}
 use lib.Dec.{eqb, ltb}
-use lib.IntN.{ℤ, pos, negsuc}
-use lib.Signed.{ltZ}
 use native.Mathlib.Omega.{arith}
-use borrow.Author.Tests.{le-ltb, ltb-true, eqb-true}
+use borrow.Author.Tests.{ltb-true, eqb-true}
 use Rattle.octets.specs.Numbers.{eqZ}
-use Rattle.octets.specs.NumberLaws.{eqZ-true}
 use Rattle.octets.specs.Search.{first, any}
-use Rattle.octets.specs.SearchLaws.{first-lowest, any-some}
+use Rattle.octets.specs.SearchLaws.{first-lowest}
 use Rattle.octets.specs.TextLaws.{same-equal}
 use Rattle.pack.specs.Rows.{Rows, Content, Matrix, Tile, Extension, Pack, rowsIn}
 use Rattle.rules.specs.Judgments.{none, some, faultIf, lowest}
 use Rattle.rules.specs.Contents.{isTilesName}
 use Rattle.rules.specs.Matrices.{matrixNamed, atLevel, tileNamed, frees, breaks351, of351, of431}
-use Rattle.rules.specs.Tiles.{atMost, atLeast, of341, of441, of551}
+use Rattle.rules.specs.Tiles.{of341, of441, of551, of561, of571}
 use Rattle.rules.specs.Codes.{judged}
 use Rattle.rules.specs.declared.Judgment.{Judgment}
 use Rattle.rules.specs.declared.Judgment.the-variants.{Clean, Hit}
+use Rattle.index.specs.ChainLaws.{by-test}
+use Rattle.judge.specs.RangeLaws.{inside-551}
 use Rattle.survey.specs.declared.Survey.{Survey}
-use Rattle.survey.specs.Surveys.{stepAt, namedAt, levelAt, columnAt, rowAt, Quiet, Surveyed, quietTile, quietMatrix, quietBy}
+use Rattle.survey.specs.Surveys.{stepAt, namedAt, levelAt, placedAt, Quiet, Surveyed, quietTile, quietMatrix, quietBy}
 
 -- a finding is not clean
 abbrev isClean : Judgment → Bool
@@ -62,27 +61,9 @@ module _ (ms : Rows Matrix) (t : Tile) (e : of441 ms t ≡ Clean) where
   unfolding atLevel
   parts = and-eq-true-iff (matrixNamed (t .name) (ms .row k)) (eqZ (t .zoom) (ms .row k .zoom)) .0 (first-lowest level (ms .count) .here there)
 
-  irreflexive : (z : ℤ) → ltZ z z ≡ false
-  irreflexive (pos n) = le-ltb n n (omega arith)
-  irreflexive (negsuc n) = le-ltb n n (omega arith)
-
-  most : atMost t (ms .row k) ≡ true
-  unfolding atMost
-  most = simp (parts .0, ← eqZ-true (t .zoom) (ms .row k .zoom) (parts .1), irreflexive (t .zoom))
-
-  least : atLeast t (ms .row k) ≡ true
-  unfolding atLeast
-  least = simp (parts .0, ← eqZ-true (t .zoom) (ms .row k .zoom) (parts .1), irreflexive (t .zoom))
-
   -- so its zoom is inside the range
   pub quiet-551 : of551 ms t ≡ Clean
-  unfolding of551
-  quiet-551 =
-      simp (
-        any-some (λ j. matrixNamed (t .name) (ms .row j)) (ms .count) k there (parts .0),
-        any-some (λ j. atMost t (ms .row j)) (ms .count) k there most,
-        any-some (λ j. atLeast t (ms .row j)) (ms .count) k there least,
-      )
+  quiet-551 = sym (inside-551 ms t k refl there)
 
   -- and where each matrix has a tiles name, so has the tile
   pub quiet-341 : (cs : Rows Content) → ((i : ℕ) → i < ms .count → of431 cs (ms .row i) ≡ Clean) → of341 cs t ≡ Clean
@@ -103,10 +84,6 @@ surveyed-unknown p = record {
 }
 
 -- ---- the codes
-by-test : {A : Type 0} (b : Bool) → (b ≡ true → A) → (b ≡ false → A) → A
-by-test true t f = t refl
-by-test false t f = f refl
-
 both : (a b : Bool) → cond a b false ≡ true → (a ≡ true) × (b ≡ true)
 both true b e = (refl, e)
 both false b e = absurd (false≢true e)
@@ -118,7 +95,7 @@ module _ (p : Pack) (s : Survey) (h : Surveyed p s) where
     leveled z = h .levels .clean z i l
 
     tile : (code : ℕ) → quietTile s code ≡ true → judged p code i ≡ Clean
-    unfolding quietTile judged namedAt columnAt rowAt
+    unfolding quietTile judged namedAt placedAt of561 of571
     tile code e =
         by-test (eqb code 341)
         (λ t.

@@ -4,9 +4,9 @@ use mathlib.Core.Path.{_≡_}
 use mathlib.Core.Bool.{Bool, false, cond}
 use lib.Dec.{eqb}
 use Rattle.pack.specs.Rows.{Rows, Content, Matrix, Tile, Pack}
-use Rattle.rules.specs.Judgments.{lowest}
-use Rattle.rules.specs.Matrices.{breaks351, of431}
-use Rattle.rules.specs.Tiles.{of441, of561, of571}
+use Rattle.rules.specs.Judgments.{lowest, firstRow}
+use Rattle.rules.specs.Matrices.{atLevel, breaks351, of431}
+use Rattle.rules.specs.Tiles.{of441, off561, off571, placed}
 use Rattle.rules.specs.declared.Judgment.{Judgment}
 use Rattle.rules.specs.declared.Judgment.the-variants.{Clean, Hit}
 use Rattle.survey.specs.declared.Survey.{Survey}
@@ -26,11 +26,8 @@ namedAt cs ms i = of431 cs (ms .row i)
 unfoldable pub levelAt : Rows Matrix → Rows Tile → ℕ → Judgment
 levelAt ms ts i = of441 ms (ts .row i)
 
-unfoldable pub columnAt : Rows Matrix → Rows Tile → ℕ → Judgment
-columnAt ms ts i = of561 ms (ts .row i)
-
-unfoldable pub rowAt : Rows Matrix → Rows Tile → ℕ → Judgment
-rowAt ms ts i = of571 ms (ts .row i)
+unfoldable pub placedAt : (Tile → Matrix → Bool) → Rows Matrix → Rows Tile → ℕ → Judgment
+placedAt off ms ts i = placed off ms (ts .row i) (firstRow (atLevel (ts .row i .name) (ts .row i .zoom)) ms)
 
 -- where none has been seen, all n rows are clean
 pub record Quiet (f : ℕ → Judgment) (n seen : ℕ) : Type 0 where
@@ -40,8 +37,8 @@ pub record Surveyed (p : Pack) (s : Survey) : Type 0 where
   pub steps : Quiet (stepAt (p .matrices)) (p .matrices .count) (s .steps)
   pub names : Quiet (namedAt (p .contents) (p .matrices)) (p .matrices .count) (s .names)
   pub levels : Quiet (levelAt (p .matrices) (p .tiles)) (p .tiles .count) (s .levels)
-  pub columns : Quiet (columnAt (p .matrices) (p .tiles)) (p .tiles .count) (s .columns)
-  pub rows : Quiet (rowAt (p .matrices) (p .tiles)) (p .tiles .count) (s .rows)
+  pub columns : Quiet (placedAt off561 (p .matrices) (p .tiles)) (p .tiles .count) (s .columns)
+  pub rows : Quiet (placedAt off571 (p .matrices) (p .tiles)) (p .tiles .count) (s .rows)
 
 -- a code of a table has no finding on a row, as far as the survey tells
 unfoldable pub quietTile : Survey → ℕ → Bool

@@ -4,7 +4,8 @@ ghost use Prim.Native.Nat.{_/_};
 ghost use lib.ListN.{length};
 ghost use Rattle.pack.specs.Rows.{Pack};
 ghost use Rattle.pack.specs.Tables.{contentsOf, matricesOf, tilesOf, packFrom};
-ghost use Rattle.survey.specs.Surveys.{seenAfter, stepAt, namedAt, levelAt, columnAt, rowAt, Quiet, Surveyed, quietTile, quietMatrix, quietBy};
+ghost use Rattle.rules.specs.Tiles.{off561, off571};
+ghost use Rattle.survey.specs.Surveys.{seenAfter, stepAt, namedAt, levelAt, placedAt, Quiet, Surveyed, quietTile, quietMatrix, quietBy};
 use index::Kind;
 use judge::Axis;
 use rules::Judgment;
@@ -71,8 +72,8 @@ fn see_names(contents: &[u8], matrices: &[u8], names: &[u8], work: &mut [u8]) ->
 
 fn see_tiles(matrices: &[u8], tiles: &[u8], names: &[u8], work: &mut [u8]) -> Places
     ensures { λ r. ⌜ Quiet (levelAt (matricesOf (now (matrices .entry)) (now (names .entry))) (tilesOf (now (tiles .entry)) (now (names .entry)))) (length (now (tiles .entry)) / 32) (r .levels) ⌝ }
-    ensures { λ r. ⌜ Quiet (columnAt (matricesOf (now (matrices .entry)) (now (names .entry))) (tilesOf (now (tiles .entry)) (now (names .entry)))) (length (now (tiles .entry)) / 32) (r .columns) ⌝ }
-    ensures { λ r. ⌜ Quiet (rowAt (matricesOf (now (matrices .entry)) (now (names .entry))) (tilesOf (now (tiles .entry)) (now (names .entry)))) (length (now (tiles .entry)) / 32) (r .rows) ⌝ }
+    ensures { λ r. ⌜ Quiet (placedAt off561 (matricesOf (now (matrices .entry)) (now (names .entry))) (tilesOf (now (tiles .entry)) (now (names .entry)))) (length (now (tiles .entry)) / 32) (r .columns) ⌝ }
+    ensures { λ r. ⌜ Quiet (placedAt off571 (matricesOf (now (matrices .entry)) (now (names .entry))) (tilesOf (now (tiles .entry)) (now (names .entry)))) (length (now (tiles .entry)) / 32) (r .rows) ⌝ }
 {
     let n = tiles.len() / 32;
     let m = index::index_all(matrices, names, work, Kind::Level);

@@ -1,8 +1,9 @@
 -- `survey::see_tiles` meets its contract.
 use Prim.Native.Nat.{_-_}
 use Rattle.pack.specs.Tables.{matricesOf, tilesOf}
-use Rattle.survey.specs.Surveys.{levelAt, columnAt, rowAt}
-use Rattle.survey.proofs.Looking.{Looking, look-start, look-end, more-level, more-column, more-row}
+use Rattle.rules.specs.Tiles.{off561, off571}
+use Rattle.survey.specs.Surveys.{levelAt, placedAt}
+use Rattle.survey.proofs.Looking.{Looking, look-start, look-end, more-level, more-placed}
 use borrow.Author.Needs.{needs}
 use Rattle.survey.proofs.see_tiles.Statement.{statement}
 use Rattle.survey.proofs.see_tiles.Tie as tie
@@ -10,8 +11,8 @@ use Rattle.survey.proofs.see_tiles.Tie as tie
 abbrev Inv-loop : tie.InvT-loop
 Inv-loop matrices tiles names work n m levels₀ columns₀ rows₀ i₀ levels columns rows i =
     Looking (levelAt (matricesOf matrices names) (tilesOf tiles names)) n i levels
-    × Looking (columnAt (matricesOf matrices names) (tilesOf tiles names)) n i columns
-    × Looking (rowAt (matricesOf matrices names) (tilesOf tiles names)) n i rows
+    × Looking (placedAt off561 (matricesOf matrices names) (tilesOf tiles names)) n i columns
+    × Looking (placedAt off571 (matricesOf matrices names) (tilesOf tiles names)) n i rows
 
 abbrev μ-loop : tie.MeasureT-loop
 μ-loop matrices tiles names work n m levels₀ columns₀ rows₀ i₀ levels columns rows i = n - i
@@ -33,6 +34,6 @@ see-tiles-spec =
     (λ c κs. search needs)
     (λ c κs. search needs)
     (λ c. search needs)
-    (λ c. (search (more-level, needs), search (more-column, needs), search (more-row, needs)))
+    (λ c. (search (more-level, needs), search (more-placed, needs), search (more-placed, needs)))
     (λ c. search needs)
     (λ c. (search (look-end, needs), (search (look-end, needs), search (look-end, needs)))))

@@ -1,6 +1,6 @@
 -- `judge::tiles/of_551` meets its contract.
 use Rattle.pack.specs.Tables.{tileOf}
-use Rattle.judge.proofs.Confining.{inside-551}
+use Rattle.judge.specs.RangeLaws.{inside-551}
 use borrow.Author.Needs.{needs}
 use Rattle.judge.proofs.tiles.of_551.Statement.{statement}
 use Rattle.judge.proofs.tiles.of_551.Tie as tie
