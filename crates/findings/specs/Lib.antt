@@ -1,9 +1,11 @@
 pub mod Findings
 pub mod Answers
 pub mod Words
+pub mod Demands
 pub mod BothSides
 pub mod Readings
 pub mod FindingLaws
 pub mod OrderLaws
 pub mod VerdictLaws
 pub mod LookupLaws
+pub mod ReportedLaws

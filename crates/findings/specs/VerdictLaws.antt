@@ -39,11 +39,15 @@ placed : (ks ts : List ℕ) (c t : ℕ) → (t ≡ 0 → ⊥) → seek ks ts c �
 placed [] ts c t n q = absurd (n (sym q))
 placed (k ∷ ks) ts c t n q = mutual-step ks ts k c t (eqb c k) refl n q (λ n′ q′. placed ks (drop 1 ts) c t n′ q′)
 
+pub listed-place : (c : ℕ) → (tableOf c ≡ 0 → ⊥) → Place codes tables c (tableOf c)
+unfolding tableOf
+listed-place c n = placed codes tables c (seek codes tables c) n refl
+
 -- the findings of a listed code are those of the full list that have the code
 pub only-code : (p : Pack) (c : ℕ) → (tableOf c ≡ 0 → ⊥) → only c (findings p) ≡ ofCode p c (tableOf c)
-unfolding tableOf ofPlace codeAt tableAt
+unfolding ofPlace codeAt tableAt
 only-code p c n =
-    let h : Place codes tables c (seek codes tables c) = placed codes tables c (seek codes tables c) n refl in
+    let h : Place codes tables c (tableOf c) = listed-place c n in
     ap (λ (d : ℕ). only d (findings p)) (sym (h .code)) ∙ only-place p (h .place) (h .within) ∙ ap (λ (d : ℕ). ofCode p d (getD tables (h .place) 0)) (h .code) ∙ ap (ofCode p c) (h .table)
 
 -- ---- "a verdict is fail, with the lowest row, where the code has a finding": it is read off the full list

@@ -1,0 +1,47 @@
+-- What the three demands speak of: a finding that stands in a list, one that a rule asks for, the lowest row of a code, and a number that fits its word.
+use Prim.Native.Nat.{ℕ, _^_, _<_, _≤_}
+use mathlib.Core.Path.{_≡_}
+use mathlib.Core.Logic.{_⊎_}
+use mathlib.Core.List.{List, [], _∷_}
+use Rattle.pack.specs.Rows.{Pack, rowsIn}
+use Rattle.rules.specs.Judgments.{none}
+use Rattle.rules.specs.Codes.{judged, judgedNone}
+use Rattle.rules.specs.declared.Judgment.the-variants.{Hit}
+use Rattle.findings.specs.Findings.{Finding, tableOf}
+
+-- ---- a finding stands in a list; each finding of a list stands in it once
+abbrev pub Stands : Finding → List Finding → Type 0
+Stands f [] = ⊥
+Stands f (g ∷ fs) = (f ≡ g) ⊎ Stands f fs
+
+abbrev pub Once : List Finding → Type 0
+Once [] = Unit
+Once (f ∷ fs) = (Stands f fs → ⊥) × Once fs
+
+-- ---- a code is one of the 36
+abbrev pub Listed : ℕ → Type 0
+Listed c = tableOf c ≡ 0 → ⊥
+
+-- a finding that the rule of its code asks for: of a row of the code's table, or of none
+pub record Due (p : Pack) (f : Finding) : Type 0 where
+  pub listed : Listed (f .code)
+  pub says : ((f .row < rowsIn p (tableOf (f .code))) × (judged p (f .code) (f .row) ≡ Hit (f .partner))) ⊎ ((f .row ≡ none) × (judgedNone p (f .code) ≡ Hit (f .partner)))
+
+-- ---- of the findings that are meant, i is "the lowest row (none if there is no other)" of those with a code; and none has the code
+pub record LowestRow (meant : Finding → Type 0) (c i : ℕ) : Type 0 where
+  pub finding : Finding
+  pub holds : meant finding
+  pub code : finding .code ≡ c
+  pub row : finding .row ≡ i
+  pub lowest : (g : Finding) → meant g → g .code ≡ c → i ≤ g .row
+
+abbrev pub NoFinding : (Finding → Type 0) → ℕ → Type 0
+NoFinding meant c = (f : Finding) → meant f → f .code ≡ c → ⊥
+
+-- ---- numbers that a u32 holds
+abbrev pub Fits : ℕ → Type 0
+Fits n = n < 2 ^ 32
+
+abbrev pub AllFit : List ℕ → Type 0
+AllFit [] = Unit
+AllFit (n ∷ ns) = Fits n × AllFit ns

@@ -1,0 +1,172 @@
+-- "The report holds all findings, each once, by rule then row, and no other": of every octet string.
+use Prim.Native.Nat.{ℕ, zero, suc, _<_, _≤_}
+use mathlib.Core.Path.{_≡_, refl, sym, ap, _∙_, subst}
+use mathlib.Core.Bool.{Bool, true, false, false≢true}
+use mathlib.Core.List.{List, [], _∷_, _++_}
+use mathlib.Core.Logic.{_⊎_, inl, inr, _↔_, ⊎-elim}
+use native.Mathlib.Nat.{eq-or-lt-of-le, le-of-suc-le-suc, not-suc-le-zero}
+use native.Mathlib.Omega.{arith}
+use lib.Dec.{eqb, ltb, eqb→eq, ltb→lt}
+use lib.ListN.{getD}
+use Rattle.octets.specs.Gather.{gather}
+use Rattle.octets.specs.TableLaws.{at}
+use Rattle.listing.specs.Refusals.{outcome, isAccepted}
+use Rattle.listing.specs.declared.Outcome.{Outcome}
+use Rattle.listing.specs.declared.Outcome.the-variants.{Accepted, Refused}
+use Rattle.pack.specs.Rows.{Pack, rowsIn}
+use Rattle.pack.specs.Tables.{packOf}
+use Rattle.pack.specs.PackLaws.{rows-numbered}
+use Rattle.rules.specs.Judgments.{none}
+use Rattle.rules.specs.Codes.{codes, tables, codeAt, tableAt, judged, judgedNone}
+use Rattle.rules.specs.declared.Judgment.{Judgment}
+use Rattle.rules.specs.declared.Judgment.the-variants.{Clean, Hit}
+use Rattle.findings.specs.Findings.{Finding, found, atRow, atNone, ofCode, ofPlace, findings, seek, tableOf, Every, Before, Ordered}
+use Rattle.findings.specs.Answers.{findingsBy, reported}
+use Rattle.findings.specs.Demands.{Stands, Once, Listed, Due}
+use Rattle.findings.specs.OrderLaws.{findings-ordered}
+use Rattle.findings.specs.VerdictLaws.{Place, listed-place}
+
+-- ---- what stands in a list
+module _ (f : Finding) where
+  stands-left : (xs ys : List Finding) → Stands f xs → Stands f (xs ++ ys)
+  stands-left (x ∷ xs) ys (inl e) = inl e
+  stands-left (x ∷ xs) ys (inr h) = inr (stands-left xs ys h)
+
+  stands-right : (xs ys : List Finding) → Stands f ys → Stands f (xs ++ ys)
+  stands-right [] ys h = h
+  stands-right (x ∷ xs) ys h = inr (stands-right xs ys h)
+
+  stands-either : (xs ys : List Finding) → Stands f (xs ++ ys) → Stands f xs ⊎ Stands f ys
+  stands-either [] ys h = inr h
+  stands-either (x ∷ xs) ys (inl e) = inl (inl e)
+  stands-either (x ∷ xs) ys (inr h) = ⊎-elim (λ (l : Stands f xs). inl (inr l)) (λ (r : Stands f ys). inr r) (stands-either xs ys h)
+
+  stands-gathered : (g : ℕ → List Finding) (n k : ℕ) → k < n → Stands f (g k) → Stands f (gather n g)
+  stands-gathered g zero k l h = absurd (not-suc-le-zero l)
+  stands-gathered g (suc n) k l h =
+      ⊎-elim (λ (q : k ≡ n). stands-right (gather n g) (g n) (subst (λ (m : ℕ). Stands f (g m)) q h))
+      (λ (m : k < n). stands-left (gather n g) (g n) (stands-gathered g n k m h)) (eq-or-lt-of-le (le-of-suc-le-suc l))
+
+  stands-some : (g : ℕ → List Finding) (n : ℕ) → Stands f (gather n g) → (k : ℕ) × (k < n) × Stands f (g k)
+  stands-some g (suc n) h =
+      ⊎-elim (λ (l : Stands f (gather n g)). let q = stands-some g n l in (q .0, omega (arith, q .1), q .2)) (λ (r : Stands f (g n)). (n, omega arith, r)) (stands-either (gather n g) (g n) h)
+
+-- what holds of every finding of a list holds of each that stands in it
+pub every-stands : (P : Finding → Type 0) (fs : List Finding) → Every P fs ↔ ((f : Finding) → Stands f fs → P f)
+every-stands P fs = (each fs, all fs)
+  where
+    each : (fs : List Finding) → Every P fs → (f : Finding) → Stands f fs → P f
+    each (g ∷ fs) a f (inl e) = subst P (sym e) (a .0)
+    each (g ∷ fs) a f (inr h) = each fs (a .1) f h
+
+    all : (fs : List Finding) → ((f : Finding) → Stands f fs → P f) → Every P fs
+    all [] h = tt
+    all (g ∷ fs) h = (h g (inl refl), all fs (λ f k. h f (inr k)))
+
+-- what is before all that follow does not follow
+pub ordered-once : (fs : List Finding) → Ordered fs → Once fs
+ordered-once [] o = tt
+ordered-once (f ∷ fs) o = (λ h. never (every-stands (Before f) fs .0 (o .0) f h), ordered-once fs (o .1))
+  where
+    never : Before f f → ⊥
+    never (inl l) = omega arith
+    never (inr l) = omega (arith, l .1)
+
+-- ---- a judgment's finding stands in the list that it gives, and no other
+found-stands : (f : Finding) (v : Judgment) → v ≡ Hit (f .partner) → Stands f (found (f .code) (f .row) v)
+found-stands f v e = subst (λ (w : Judgment). Stands f (found (f .code) (f .row) w)) (sym e) (inl refl)
+
+found-only : (f : Finding) (c i : ℕ) (v : Judgment) → Stands f (found c i v) → (f .code ≡ c) × (f .row ≡ i) × (v ≡ Hit (f .partner))
+found-only f c i (Hit j) (inl e) = (ap (λ (g : Finding). g .code) e, ap (λ (g : Finding). g .row) e, sym (ap (λ (g : Finding). Hit (g .partner)) e))
+
+-- ---- the codes at the 36 places are listed, with their tables: one computed test
+ofPlaces : ℕ → ℕ → Bool
+ofPlaces k c = eqb (seek codes tables c) (getD tables k 0)
+
+pub table-of-place : (k : ℕ) → k < 36 → tableOf (codeAt k) ≡ tableAt k
+unfolding ofPlaces tableOf codeAt tableAt
+table-of-place k h = eqb→eq _ _ (at ofPlaces codes tt k h)
+
+someTable : ℕ → ℕ → Bool
+someTable k t = ltb 0 t
+
+pub place-listed : (k : ℕ) → k < 36 → Listed (codeAt k)
+unfolding someTable tableAt
+place-listed k h e = omega (arith, table-of-place k h, ltb→lt 0 (tableAt k) (at someTable tables tt k h))
+
+-- a code is one of the 36 exactly where it has a place among them
+pub listed-exactly : (c : ℕ) → Listed c ↔ ((k : ℕ) × (k < 36) × (codeAt k ≡ c))
+unfolding codeAt
+listed-exactly c =
+    (λ n. let h = listed-place c n in (h .place, h .within, h .code), λ h. subst Listed (h .2) (place-listed (h .0) (h .1)))
+
+-- ---- all that a pack's rules ask for, and no other
+module _ (p : Pack) (f : Finding) where
+  due-row : (k i : ℕ) → k < 36 → i < rowsIn p (tableAt k) → (f .code ≡ codeAt k) × (f .row ≡ i) × (judged p (codeAt k) i ≡ Hit (f .partner)) → Due p f
+  due-row k i l m q = record {
+    listed = rw (q .0) (place-listed k l);
+    says = inl (rw (q .0, q .1, table-of-place k l) m, rw (q .0, q .1) (q .2));
+  }
+
+  due-none : (k : ℕ) → k < 36 → (f .code ≡ codeAt k) × (f .row ≡ none) × (judgedNone p (codeAt k) ≡ Hit (f .partner)) → Due p f
+  due-none k l q = record { listed = rw (q .0) (place-listed k l); says = inr (q .1, rw (q .0) (q .2)) }
+
+  due-place : (k : ℕ) → k < 36 → Stands f (ofPlace p k) → Due p f
+  unfolding ofPlace ofCode atRow atNone
+  due-place k l h = ⊎-elim row without (stands-either f (gather (rowsIn p (tableAt k)) (atRow p (codeAt k))) (atNone p (codeAt k)) h)
+    where
+      row : Stands f (gather (rowsIn p (tableAt k)) (atRow p (codeAt k))) → Due p f
+      row a =
+          let q = stands-some f (atRow p (codeAt k)) (rowsIn p (tableAt k)) a in
+          due-row k (q .0) l (q .1) (found-only f (codeAt k) (q .0) (judged p (codeAt k) (q .0)) (q .2))
+
+      without : Stands f (atNone p (codeAt k)) → Due p f
+      without a = due-none k l (found-only f (codeAt k) none (judgedNone p (codeAt k)) a)
+
+  due-code : Due p f → Stands f (ofCode p (f .code) (tableOf (f .code)))
+  unfolding ofCode atRow atNone
+  due-code d = ⊎-elim row without (d .says)
+    where
+      rows : List Finding
+      rows = gather (rowsIn p (tableOf (f .code))) (atRow p (f .code))
+
+      row : (f .row < rowsIn p (tableOf (f .code))) × (judged p (f .code) (f .row) ≡ Hit (f .partner)) → Stands f (rows ++ atNone p (f .code))
+      row q =
+          stands-left f rows (atNone p (f .code)) (stands-gathered f (atRow p (f .code)) (rowsIn p (tableOf (f .code))) (f .row) (q .0) (found-stands f (judged p (f .code) (f .row)) (q .1)))
+
+      without : (f .row ≡ none) × (judgedNone p (f .code) ≡ Hit (f .partner)) → Stands f (rows ++ atNone p (f .code))
+      without q =
+          stands-right f rows (atNone p (f .code)) (subst (λ (i : ℕ). Stands f (found (f .code) i (judgedNone p (f .code)))) (q .0) (found-stands f (judgedNone p (f .code)) (q .1)))
+
+  pub findings-exactly : Stands f (findings p) ↔ Due p f
+  unfolding findings ofPlace codeAt tableAt
+  findings-exactly = (
+    λ h. let q = stands-some f (ofPlace p) 36 h in due-place (q .0) (q .1) (q .2),
+    λ d.
+        let h = listed-place (f .code) (d .listed) in
+        stands-gathered f (ofPlace p) 36 (h .place) (h .within) (rw (h .code, h .table) (due-code d)),
+  )
+
+-- ---- the report of an octet string
+module _ (s : List ℕ) where
+  -- "all findings .. and no other": a finding stands in the report exactly where the listing is accepted and the rule of its code asks for it
+  pub reported-exactly : (f : Finding) → Stands f (reported s) ↔ ((isAccepted (outcome s) ≡ true) × Due (packOf s) f)
+  unfolding reported
+  reported-exactly f = by (outcome s)
+    where
+      by : (o : Outcome) → Stands f (findingsBy o (findings (packOf s))) ↔ ((isAccepted o ≡ true) × Due (packOf s) f)
+      by (Accepted l) = (λ h. (refl, findings-exactly (packOf s) f .0 h), λ d. findings-exactly (packOf s) f .1 (d .1))
+      by (Refused n t r) = (λ h. absurd h, λ d. absurd (false≢true (d .0)))
+
+  -- "by rule then row"
+  pub reported-ordered : Ordered (reported s)
+  unfolding reported
+  reported-ordered = by (outcome s) refl
+    where
+      by : (o : Outcome) → outcome s ≡ o → Ordered (findingsBy o (findings (packOf s)))
+      by (Accepted l) e = findings-ordered (packOf s) (rows-numbered s (ap isAccepted e))
+      by (Refused n t r) e = tt
+
+  -- "each once"
+  pub reported-once : Once (reported s)
+  reported-once = ordered-once (reported s) reported-ordered
