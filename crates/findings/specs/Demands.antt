@@ -3,11 +3,15 @@ use Prim.Native.Nat.{ℕ, _^_, _<_, _≤_}
 use mathlib.Core.Path.{_≡_}
 use mathlib.Core.Logic.{_⊎_}
 use mathlib.Core.List.{List, [], _∷_}
+use mathlib.Core.Bool.{true}
+use Rattle.listing.specs.Refusals.{outcome, isAccepted}
 use Rattle.pack.specs.Rows.{Pack, rowsIn}
+use Rattle.pack.specs.Tables.{packOf}
 use Rattle.rules.specs.Judgments.{none}
 use Rattle.rules.specs.Codes.{judged, judgedNone}
 use Rattle.rules.specs.declared.Judgment.the-variants.{Hit}
 use Rattle.findings.specs.Findings.{Finding, tableOf}
+use Rattle.findings.specs.Answers.{alwaysTestable}
 
 -- ---- a finding stands in a list; each finding of a list stands in it once
 abbrev pub Stands : Finding → List Finding → Type 0
@@ -27,6 +31,14 @@ pub record Due (p : Pack) (f : Finding) : Type 0 where
   pub listed : Listed (f .code)
   pub says : ((f .row < rowsIn p (tableOf (f .code))) × (judged p (f .code) (f .row) ≡ Hit (f .partner))) ⊎ ((f .row ≡ none) × (judgedNone p (f .code) ≡ Hit (f .partner)))
 
+-- a finding of an octet string: the string is accepted, and the rule asks for it
+abbrev pub Asked : List ℕ → Finding → Type 0
+Asked s f = (isAccepted (outcome s) ≡ true) × Due (packOf s) f
+
+-- a partner: none, or a row of some table of the pack
+abbrev pub Partner : Pack → ℕ → Type 0
+Partner p j = (j ≡ none) ⊎ ((t : ℕ) × (j < rowsIn p t))
+
 -- ---- of the findings that are meant, i is "the lowest row (none if there is no other)" of those with a code; and none has the code
 pub record LowestRow (meant : Finding → Type 0) (c i : ℕ) : Type 0 where
   pub finding : Finding
@@ -37,6 +49,10 @@ pub record LowestRow (meant : Finding → Type 0) (c i : ℕ) : Type 0 where
 
 abbrev pub NoFinding : (Finding → Type 0) → ℕ → Type 0
 NoFinding meant c = (f : Finding) → meant f → f .code ≡ c → ⊥
+
+-- a code whose table has n rows can be tested: there is a row, or it is one of the four that need none
+abbrev pub Testable : ℕ → ℕ → Type 0
+Testable c n = n ≡ 0 → alwaysTestable c ≡ true
 
 -- ---- numbers that a u32 holds
 abbrev pub Fits : ℕ → Type 0

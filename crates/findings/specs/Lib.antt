@@ -8,4 +8,8 @@ pub mod FindingLaws
 pub mod OrderLaws
 pub mod VerdictLaws
 pub mod LookupLaws
+pub mod StandsLaws
 pub mod ReportedLaws
+pub mod PartnerLaws
+pub mod RefusedLaws
+pub mod RulingLaws

@@ -1,16 +1,16 @@
 -- "The report holds all findings, each once, by rule then row, and no other": of every octet string.
-use Prim.Native.Nat.{ℕ, zero, suc, _<_, _≤_}
+use Prim.Native.Nat.{ℕ, _<_}
 use mathlib.Core.Path.{_≡_, refl, sym, ap, _∙_, subst}
 use mathlib.Core.Bool.{Bool, true, false, false≢true}
-use mathlib.Core.List.{List, [], _∷_, _++_}
-use mathlib.Core.Logic.{_⊎_, inl, inr, _↔_, ⊎-elim}
-use native.Mathlib.Nat.{eq-or-lt-of-le, le-of-suc-le-suc, not-suc-le-zero}
+use mathlib.Core.List.{List, _++_}
+use mathlib.Core.Logic.{inl, inr, _↔_, ⊎-elim}
 use native.Mathlib.Omega.{arith}
 use lib.Dec.{eqb, ltb, eqb→eq, ltb→lt}
 use lib.ListN.{getD}
 use Rattle.octets.specs.Gather.{gather}
 use Rattle.octets.specs.TableLaws.{at}
 use Rattle.listing.specs.Refusals.{outcome, isAccepted}
+use Rattle.listing.specs.RefusalLaws.{accepted-is}
 use Rattle.listing.specs.declared.Outcome.{Outcome}
 use Rattle.listing.specs.declared.Outcome.the-variants.{Accepted, Refused}
 use Rattle.pack.specs.Rows.{Pack, rowsIn}
@@ -20,57 +20,12 @@ use Rattle.rules.specs.Judgments.{none}
 use Rattle.rules.specs.Codes.{codes, tables, codeAt, tableAt, judged, judgedNone}
 use Rattle.rules.specs.declared.Judgment.{Judgment}
 use Rattle.rules.specs.declared.Judgment.the-variants.{Clean, Hit}
-use Rattle.findings.specs.Findings.{Finding, found, atRow, atNone, ofCode, ofPlace, findings, seek, tableOf, Every, Before, Ordered}
+use Rattle.findings.specs.Findings.{Finding, found, atRow, atNone, ofCode, ofPlace, findings, seek, tableOf, Ordered}
 use Rattle.findings.specs.Answers.{findingsBy, reported}
-use Rattle.findings.specs.Demands.{Stands, Once, Listed, Due}
+use Rattle.findings.specs.Demands.{Stands, Once, Listed, Due, Asked}
 use Rattle.findings.specs.OrderLaws.{findings-ordered}
+use Rattle.findings.specs.StandsLaws.{stands-left, stands-right, stands-either, stands-gathered, stands-some, ordered-once}
 use Rattle.findings.specs.VerdictLaws.{Place, listed-place}
-
--- ---- what stands in a list
-module _ (f : Finding) where
-  stands-left : (xs ys : List Finding) → Stands f xs → Stands f (xs ++ ys)
-  stands-left (x ∷ xs) ys (inl e) = inl e
-  stands-left (x ∷ xs) ys (inr h) = inr (stands-left xs ys h)
-
-  stands-right : (xs ys : List Finding) → Stands f ys → Stands f (xs ++ ys)
-  stands-right [] ys h = h
-  stands-right (x ∷ xs) ys h = inr (stands-right xs ys h)
-
-  stands-either : (xs ys : List Finding) → Stands f (xs ++ ys) → Stands f xs ⊎ Stands f ys
-  stands-either [] ys h = inr h
-  stands-either (x ∷ xs) ys (inl e) = inl (inl e)
-  stands-either (x ∷ xs) ys (inr h) = ⊎-elim (λ (l : Stands f xs). inl (inr l)) (λ (r : Stands f ys). inr r) (stands-either xs ys h)
-
-  stands-gathered : (g : ℕ → List Finding) (n k : ℕ) → k < n → Stands f (g k) → Stands f (gather n g)
-  stands-gathered g zero k l h = absurd (not-suc-le-zero l)
-  stands-gathered g (suc n) k l h =
-      ⊎-elim (λ (q : k ≡ n). stands-right (gather n g) (g n) (subst (λ (m : ℕ). Stands f (g m)) q h))
-      (λ (m : k < n). stands-left (gather n g) (g n) (stands-gathered g n k m h)) (eq-or-lt-of-le (le-of-suc-le-suc l))
-
-  stands-some : (g : ℕ → List Finding) (n : ℕ) → Stands f (gather n g) → (k : ℕ) × (k < n) × Stands f (g k)
-  stands-some g (suc n) h =
-      ⊎-elim (λ (l : Stands f (gather n g)). let q = stands-some g n l in (q .0, omega (arith, q .1), q .2)) (λ (r : Stands f (g n)). (n, omega arith, r)) (stands-either (gather n g) (g n) h)
-
--- what holds of every finding of a list holds of each that stands in it
-pub every-stands : (P : Finding → Type 0) (fs : List Finding) → Every P fs ↔ ((f : Finding) → Stands f fs → P f)
-every-stands P fs = (each fs, all fs)
-  where
-    each : (fs : List Finding) → Every P fs → (f : Finding) → Stands f fs → P f
-    each (g ∷ fs) a f (inl e) = subst P (sym e) (a .0)
-    each (g ∷ fs) a f (inr h) = each fs (a .1) f h
-
-    all : (fs : List Finding) → ((f : Finding) → Stands f fs → P f) → Every P fs
-    all [] h = tt
-    all (g ∷ fs) h = (h g (inl refl), all fs (λ f k. h f (inr k)))
-
--- what is before all that follow does not follow
-pub ordered-once : (fs : List Finding) → Ordered fs → Once fs
-ordered-once [] o = tt
-ordered-once (f ∷ fs) o = (λ h. never (every-stands (Before f) fs .0 (o .0) f h), ordered-once fs (o .1))
-  where
-    never : Before f f → ⊥
-    never (inl l) = omega arith
-    never (inr l) = omega (arith, l .1)
 
 -- ---- a judgment's finding stands in the list that it gives, and no other
 found-stands : (f : Finding) (v : Judgment) → v ≡ Hit (f .partner) → Stands f (found (f .code) (f .row) v)
@@ -149,8 +104,13 @@ module _ (p : Pack) (f : Finding) where
 
 -- ---- the report of an octet string
 module _ (s : List ℕ) where
+  -- an accepted listing is judged
+  pub reported-judged : isAccepted (outcome s) ≡ true → reported s ≡ findings (packOf s)
+  unfolding reported
+  reported-judged a = rw (accepted-is s a)
+
   -- "all findings .. and no other": a finding stands in the report exactly where the listing is accepted and the rule of its code asks for it
-  pub reported-exactly : (f : Finding) → Stands f (reported s) ↔ ((isAccepted (outcome s) ≡ true) × Due (packOf s) f)
+  pub reported-exactly : (f : Finding) → Stands f (reported s) ↔ Asked s f
   unfolding reported
   reported-exactly f = by (outcome s)
     where

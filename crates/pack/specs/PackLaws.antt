@@ -111,14 +111,17 @@ module _ (s : List ℕ) where
   pub count-at-most : isAccepted (outcome s) ≡ true → (k : ℕ) → 1 ≤ k → k ≤ 6 → rowsIn (packOf s) k ≤ most k
   count-at-most a k l h = subst (λ (n : ℕ). n ≤ most k) (sym (count-header a k l h)) (count-most s a k l (omega arith))
 
-  -- so no row has the number that means none, 4294967295
-  pub rows-numbered : isAccepted (outcome s) ≡ true → (k : ℕ) → rowsIn (packOf s) k ≤ 4294967295
+  -- so none has more than 262,144 rows, and no row has the number that means none, 4294967295
+  pub rows-most : isAccepted (outcome s) ≡ true → (k : ℕ) → rowsIn (packOf s) k ≤ 262144
   unfolding rowsIn most
-  rows-numbered a zero = omega arith
-  rows-numbered a (suc zero) = omega (arith, count-at-most a 1 (omega arith) (omega arith))
-  rows-numbered a (suc (suc zero)) = omega (arith, count-at-most a 2 (omega arith) (omega arith))
-  rows-numbered a (suc (suc (suc zero))) = omega (arith, count-at-most a 3 (omega arith) (omega arith))
-  rows-numbered a (suc (suc (suc (suc zero)))) = omega (arith, count-at-most a 4 (omega arith) (omega arith))
-  rows-numbered a (suc (suc (suc (suc (suc zero))))) = omega (arith, count-at-most a 5 (omega arith) (omega arith))
-  rows-numbered a (suc (suc (suc (suc (suc (suc zero)))))) = omega (arith, count-at-most a 6 (omega arith) (omega arith))
-  rows-numbered a (suc (suc (suc (suc (suc (suc (suc k))))))) = omega arith
+  rows-most a zero = omega arith
+  rows-most a (suc zero) = omega (arith, count-at-most a 1 (omega arith) (omega arith))
+  rows-most a (suc (suc zero)) = omega (arith, count-at-most a 2 (omega arith) (omega arith))
+  rows-most a (suc (suc (suc zero))) = omega (arith, count-at-most a 3 (omega arith) (omega arith))
+  rows-most a (suc (suc (suc (suc zero)))) = omega (arith, count-at-most a 4 (omega arith) (omega arith))
+  rows-most a (suc (suc (suc (suc (suc zero))))) = omega (arith, count-at-most a 5 (omega arith) (omega arith))
+  rows-most a (suc (suc (suc (suc (suc (suc zero)))))) = omega (arith, count-at-most a 6 (omega arith) (omega arith))
+  rows-most a (suc (suc (suc (suc (suc (suc (suc k))))))) = omega arith
+
+  pub rows-numbered : isAccepted (outcome s) ≡ true → (k : ℕ) → rowsIn (packOf s) k ≤ 4294967295
+  rows-numbered a k = omega (arith, rows-most a k)
