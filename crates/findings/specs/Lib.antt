@@ -13,3 +13,5 @@ pub mod ReportedLaws
 pub mod PartnerLaws
 pub mod RefusedLaws
 pub mod RulingLaws
+pub mod LocatedLaws
+pub mod WordLaws

@@ -43,6 +43,15 @@ same-address x z c r t q e =
     let j = both (eqZ c (t .column)) (eqZ r (t .row)) (i .1) in
     rw (sym (same-equal x (t .name) (h .0)), sym (eqZ-true z (t .zoom) (i .0)), sym (eqZ-true c (t .column) (j .0)), sym (eqZ-true r (t .row) (j .1)))
 
+-- a lookup that finds row k has found it as the first, and below the count
+pub located-at : (i n k : ℕ) → locatedRow i n ≡ At k → (i ≡ k) × (i < n)
+unfolding locatedRow
+located-at i n k e = by (ltb i n) refl e
+  where
+    by : (b : Bool) → ltb i n ≡ b → cond b (At i) Nowhere ≡ At k → (i ≡ k) × (i < n)
+    by true h g = (cc, ltb-true _ _ h)
+    by false h g = let w : _≡_ {A = ℕ} 0 1 = cc in omega arith
+
 -- no 541 finding on a tile row at the address
 abbrev pub Undoubled : Pack → List ℕ → ℤ → ℤ → ℤ → Finding → Type 0
 Undoubled p x z c r f = f .code ≡ 541 → atAddress x z c r (p .tiles .row (f .row)) ≡ true → ⊥
@@ -75,19 +84,11 @@ module _ (p : Pack) (x : List ℕ) (z c r : ℤ) (clear : Every (Undoubled p x z
   unfolding of541 partner any
   none-after j k l m e f = refuted j (judged p 541 j) (judged541 j ∙ simp (hit j k m e f)) e (at-row j l)
 
-  by : (n i k : ℕ) → i ≡ n → locatedRow i (p .tiles .count) ≡ At k → (i ≡ k) × (i < p .tiles .count)
-  unfolding locatedRow
-  by n i k q e = cases (ltb i (p .tiles .count)) refl e
-    where
-      cases : (b : Bool) → ltb i (p .tiles .count) ≡ b → cond b (At i) Nowhere ≡ At k → (i ≡ k) × (i < p .tiles .count)
-      cases true h g = (cc, ltb-true _ _ h)
-      cases false h g = let w : _≡_ {A = ℕ} 0 1 = cc in omega arith
-
   -- what a lookup returns is the only tile there
   pub lookup-only : (k : ℕ) → tileAt (p .tiles) x z c r ≡ At k → (j : ℕ) → j < p .tiles .count → here j ≡ true → j ≡ k
   unfolding tileAt
   lookup-only k e j l h =
-      let q = by _ (firstRow (atAddress x z c r) (p .tiles)) k refl e in
+      let q = located-at (firstRow (atAddress x z c r) (p .tiles)) (p .tiles .count) k e in
       let low = first-lowest here (p .tiles .count) in
       let there : here k ≡ true = subst (λ (m : ℕ). here m ≡ true) (q .0) (low .here (q .1)) in
       let least : k ≤ j = subst (λ (m : ℕ). m ≤ j) (q .0) (at-most j (low .below) h) in

@@ -2,7 +2,7 @@
 use Prim.Native.Nat.{ℕ, _<_}
 use mathlib.Core.Path.{_≡_, refl, sym, ap, _∙_, subst}
 use mathlib.Core.Bool.{Bool, true, false, false≢true}
-use mathlib.Core.List.{List, _++_}
+use mathlib.Core.List.{List, [], _++_}
 use mathlib.Core.Logic.{inl, inr, _↔_, ⊎-elim}
 use native.Mathlib.Omega.{arith}
 use lib.Dec.{eqb, ltb, eqb→eq, ltb→lt}
@@ -104,10 +104,18 @@ module _ (p : Pack) (f : Finding) where
 
 -- ---- the report of an octet string
 module _ (s : List ℕ) where
-  -- an accepted listing is judged
+  -- an accepted listing is judged, and of a refused one nothing is reported
   pub reported-judged : isAccepted (outcome s) ≡ true → reported s ≡ findings (packOf s)
   unfolding reported
   reported-judged a = rw (accepted-is s a)
+
+  pub reported-none : isAccepted (outcome s) ≡ false → reported s ≡ []
+  unfolding reported
+  reported-none = by (outcome s)
+    where
+      by : (o : Outcome) → isAccepted o ≡ false → findingsBy o (findings (packOf s)) ≡ []
+      by (Accepted l) e = absurd (false≢true (sym e))
+      by (Refused n t r) e = refl
 
   -- "all findings .. and no other": a finding stands in the report exactly where the listing is accepted and the rule of its code asks for it
   pub reported-exactly : (f : Finding) → Stands f (reported s) ↔ Asked s f

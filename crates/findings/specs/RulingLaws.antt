@@ -38,7 +38,7 @@ lowest-map A B c i e h =
 
 -- ---- the ruling of a listed code, by the findings of a pack
 -- which of the four a ruling is, and the number of a refusal: words of its answer
-abbrev kind : Ruling → ℕ
+abbrev pub kind : Ruling → ℕ
 kind v = getD (rulingWords v) 0 0
 
 abbrev number : Ruling → ℕ
@@ -141,7 +141,7 @@ module _ (s : List ℕ) (c : ℕ) where
   unfolding verdictOf
   verdict-turned n t r l o = rw (ne-eqb (tableOf c) 0 l, o)
 
-  verdict-judged : Listed c → isAccepted (outcome s) ≡ true → verdictOf s c ≡ ruled (packOf s) c
+  pub verdict-judged : Listed c → isAccepted (outcome s) ≡ true → verdictOf s c ≡ ruled (packOf s) c
   unfolding verdictOf
   verdict-judged l a = rw (ne-eqb (tableOf c) 0 l, accepted-is s a)
 
