@@ -1,10 +1,30 @@
--- Two answers that keep one promise are the same.
-use Prim.Native.Nat.{ℕ}
-use mathlib.Core.List.{List}
-use mathlib.Core.Path.{_≡_, sym, _∙_}
+-- What a caller of the three calls has from their promises: one answer, which its words read as, and a refusal that writes nothing.
+use Prim.Native.Nat.{ℕ, _+_, _*_, _<_, _≤_}
+use mathlib.Core.List.{List, [], _∷_, _++_}
+use mathlib.Core.Path.{_≡_, refl, sym, ap, _∙_, subst}
+use mathlib.Core.Bool.{Bool, true, false}
+use mathlib.Core.Logic.{inl}
+use native.Mathlib.Omega.{arith}
+use borrow.Author.Tests.{lt-ltb, le-ltb}
 use lib.IntN.{ℤ}
+use lib.ListN.{length, getD, drop}
+use Rattle.octets.specs.Octets.{le32}
+use Rattle.listing.specs.Refusals.{outcome, numberOf, isAccepted}
+use Rattle.findings.specs.Findings.{Finding}
+use Rattle.findings.specs.Answers.{reported, verdictOf, isRefused, lookupOf}
+use Rattle.findings.specs.Words.{wordsOf, writtenOf, bufferOf, reportWords, rulingWords, locatedWords, answered}
+use Rattle.findings.specs.Demands.{Stands, AllFit}
+use Rattle.findings.specs.StandsLaws.{stands-right, every-stands}
+use Rattle.findings.specs.ReportedLaws.{reported-none}
+use Rattle.findings.specs.RefusedLaws.{accepted-number}
+use Rattle.findings.specs.WordLaws.{buffer-none, words-read, finding-read, findings-fit, report-fits, verdict-fits, lookup-fits}
+use Rattle.findings.specs.declared.Ruling.{Ruling}
+use Rattle.findings.specs.declared.Ruling.the-variants.{Pass, Fail, NotTestable, Refused}
+use Rattle.findings.specs.declared.Located.{Located}
+use Rattle.findings.specs.declared.Located.the-variants as look
 use Rattle.desterlin.specs.Calls.{ReportCall, VerdictCall, LookupCall}
 
+-- ---- two answers that keep one promise are the same
 pub report-one : {s b w a : List ℕ} {r₁ r₂ : ℕ} {b₁ b₂ w₁ w₂ a₁ a₂ : List ℕ}
     → ReportCall s b w a r₁ b₁ w₁ a₁ → ReportCall s b w a r₂ b₂ w₂ a₂ → (r₁ ≡ r₂) × (b₁ ≡ b₂) × (a₁ ≡ a₂)
 report-one p q = (p .status ∙ sym (q .status), p .findings ∙ sym (q .findings), p .answer ∙ sym (q .answer))
@@ -25,3 +45,100 @@ report-any-work p q = (p .status ∙ sym (q .status), p .findings ∙ sym (q .fi
 pub verdict-any-work : {s : List ℕ} {code : ℕ} {w v a : List ℕ} {r₁ r₂ : ℕ} {w₁ v₂ a₁ a₂ : List ℕ}
     → VerdictCall s code w a r₁ w₁ a₁ → VerdictCall s code v a r₂ v₂ a₂ → (r₁ ≡ r₂) × (a₁ ≡ a₂)
 verdict-any-work p q = (p .status ∙ sym (q .status), p .answer ∙ sym (q .answer))
+
+-- ---- "where the answer buffer is too short, nothing is written and 0 is returned"
+pub report-short-kept : {s b w a : List ℕ} {r : ℕ} {b′ w′ a′ : List ℕ} → ReportCall s b w a r b′ w′ a′ → length a < 20 → (r ≡ 0) × (b′ ≡ b) × (w′ ≡ w) × (a′ ≡ a)
+report-short-kept {a = a} p h =
+    let t = lt-ltb (length a) 20 h in
+    (p .status ∙ rw t, p .findings ∙ rw t, p .short t, p .answer ∙ rw t)
+
+pub verdict-short-kept : {s : List ℕ} {code : ℕ} {w a : List ℕ} {r : ℕ} {w′ a′ : List ℕ} → VerdictCall s code w a r w′ a′ → length a < 20 → (r ≡ 0) × (w′ ≡ w) × (a′ ≡ a)
+verdict-short-kept {a = a} p h =
+    let t = lt-ltb (length a) 20 h in
+    (p .status ∙ rw t, p .short t, p .answer ∙ rw t)
+
+pub lookup-short-kept : {s : List ℕ} {k : ℕ} {z c i : ℤ} {a : List ℕ} {r : ℕ} {a′ : List ℕ} → LookupCall s k z c i a r a′ → length a < 16 → (r ≡ 0) × (a′ ≡ a)
+lookup-short-kept {a = a} p h =
+    let t = lt-ltb (length a) 16 h in
+    (p .status ∙ rw t, p .answer ∙ rw t)
+
+-- ---- each word of an answer reads as its number
+answer-read : (size : ℕ) (ws a a′ : List ℕ) (k : ℕ) → size ≤ length a → AllFit ws → k < length ws → a′ ≡ answered size ws a → le32 a′ (4 * k) ≡ getD ws k 0
+answer-read size ws a a′ k h f l e =
+    ap (λ (x : List ℕ). le32 x (4 * k)) (e ∙ rw (le-ltb (length a) size h)) ∙ words-read ws (drop size a) k f l
+
+module _ {s b w a : List ℕ} {r : ℕ} {b′ w′ a′ : List ℕ} (p : ReportCall s b w a r b′ w′ a′) (whole : 20 ≤ length a) where
+  pub report-reads : (k : ℕ) → k < 5 → le32 a′ (4 * k) ≡ getD (reportWords s b) k 0
+  unfolding reportWords
+  report-reads k l = answer-read 20 (reportWords s b) a a′ k whole (report-fits s b) l (p .answer)
+
+  -- the number of the refusal, 0 where there is none
+  pub report-number : le32 a′ 0 ≡ numberOf (outcome s)
+  unfolding reportWords
+  report-number = report-reads 0 (omega arith)
+
+  -- "the total is full even where the buffer is short": it is how many findings there are, whatever the buffer
+  pub report-total : le32 a′ 12 ≡ length (reported s)
+  unfolding reportWords
+  report-total = report-reads 3 (omega arith)
+
+  pub report-written : le32 a′ 16 ≡ writtenOf (reported s) b
+  unfolding reportWords
+  report-written = report-reads 4 (omega arith)
+
+  wrote : b′ ≡ bufferOf (reported s) b
+  wrote = p .findings ∙ rw (le-ltb (length a) 20 whole)
+
+  -- code, row and partner of each finding that is written
+  pub report-finding : (before : List Finding) (f : Finding) (after : List Finding) (k : ℕ) → reported s ≡ before ++ f ∷ after → length before < le32 a′ 16 → k < 3
+      → le32 b′ (12 * length before + 4 * k) ≡ getD (wordsOf f) k 0
+  report-finding before f after k e l h =
+      ap (λ (x : List ℕ). le32 x (12 * length before + 4 * k)) (wrote ∙ ap (λ (fs : List Finding). bufferOf fs b) e) ∙ finding-read b before f after k fits written h
+    where
+      fits : AllFit (wordsOf f)
+      fits = every-stands (λ g. AllFit (wordsOf g)) (reported s) .0 (findings-fit s) f (subst (Stands f) (sym e) (stands-right f before (f ∷ after) (inl refl)))
+
+      written : length before < writtenOf (before ++ f ∷ after) b
+      written = subst (λ (n : ℕ). length before < n) (report-written ∙ ap (λ (fs : List Finding). writtenOf fs b) e) l
+
+  -- "a refusal writes nothing": findings and workspace keep their octets, total and written are 0
+  pub report-refused-kept : (le32 a′ 0 ≡ 0 → ⊥) → (b′ ≡ b) × (w′ ≡ w) × (le32 a′ 12 ≡ 0) × (le32 a′ 16 ≡ 0)
+  unfolding writtenOf
+  report-refused-kept n =
+      let x = turned (isAccepted (outcome s)) refl in
+      let none = reported-none s x in
+      (wrote ∙ ap (λ (fs : List Finding). bufferOf fs b) none ∙ buffer-none b, p .refused x, report-total ∙ ap length none, report-written ∙ ap (λ (fs : List Finding). writtenOf fs b) none ∙ omega arith)
+    where
+      turned : (o : Bool) → isAccepted (outcome s) ≡ o → isAccepted (outcome s) ≡ false
+      turned true e = absurd (n (report-number ∙ accepted-number s .1 e))
+      turned false e = e
+
+module _ {s : List ℕ} {code : ℕ} {w a : List ℕ} {r : ℕ} {w′ a′ : List ℕ} (p : VerdictCall s code w a r w′ a′) (whole : 20 ≤ length a) where
+  pub verdict-reads : (k : ℕ) → k < 5 → le32 a′ (4 * k) ≡ getD (rulingWords (verdictOf s code)) k 0
+  verdict-reads k l = answer-read 20 (rulingWords (verdictOf s code)) a a′ k whole (verdict-fits s code) (subst (λ (n : ℕ). k < n) (sym (five (verdictOf s code))) l) (p .answer)
+    where
+      five : (v : Ruling) → length (rulingWords v) ≡ 5
+      five Pass = refl
+      five (Fail i) = refl
+      five NotTestable = refl
+      five (Refused n t q) = refl
+
+  -- a refused verdict leaves the workspace as it was
+  pub verdict-refused-kept : le32 a′ 0 ≡ 3 → w′ ≡ w
+  verdict-refused-kept e = p .refused (by (verdictOf s code) (sym (verdict-reads 0 (omega arith)) ∙ e))
+    where
+      by : (v : Ruling) → getD (rulingWords v) 0 0 ≡ 3 → isRefused v ≡ true
+      by Pass q = absurd (omega arith)
+      by (Fail i) q = absurd (omega arith)
+      by NotTestable q = absurd (omega arith)
+      by (Refused n t z) q = refl
+
+pub lookup-reads : {s : List ℕ} {k : ℕ} {z c i : ℤ} {a : List ℕ} {r : ℕ} {a′ : List ℕ} → LookupCall s k z c i a r a′ → 16 ≤ length a
+    → (j : ℕ) → j < 4 → le32 a′ (4 * j) ≡ getD (locatedWords (lookupOf s k z c i)) j 0
+lookup-reads {s} {k} {z} {c} {i} {a} {r} {a′} p whole j l =
+    answer-read 16 (locatedWords (lookupOf s k z c i)) a a′ j whole (lookup-fits s k z c i) (subst (λ (n : ℕ). j < n) (sym (four (lookupOf s k z c i))) l) (p .answer)
+  where
+    four : (v : Located) → length (locatedWords v) ≡ 4
+    four (look.At i) = refl
+    four look.Nowhere = refl
+    four (look.Refused n t q) = refl
