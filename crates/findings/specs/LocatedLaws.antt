@@ -3,9 +3,9 @@ use Prim.Native.Nat.{ℕ, _<_, _≤_}
 use mathlib.Core.Path.{_≡_, refl, sym, ap, _∙_, subst}
 use mathlib.Core.Bool.{Bool, true, false, cond, _&&_, and-false, false≢true}
 use mathlib.Core.List.{List}
-use mathlib.Core.Logic.{_⊎_, inl, inr, _↔_}
+use mathlib.Core.Logic.{_⊎_, inl, inr, _↔_, ⊎-elim}
 use native.Mathlib.Omega.{arith}
-use borrow.Author.Tests.{lt-ltb, le-ltb, ltb-true, ltb-false}
+use borrow.Author.Tests.{le-ltb, ltb-false}
 use lib.Dec.{ltb}
 use lib.IntN.{ℤ}
 use lib.ListN.{getD}
@@ -103,20 +103,33 @@ module _ (s : List ℕ) (k : ℕ) (z c r : ℤ) where
       by (reading.Accepted l) true e h = subst P (sym (lookup-accepted (ap isAccepted e) ∙ rw h)) (looked (ap isAccepted e) h)
       by (reading.Accepted l) false e h = subst P (sym (lookup-accepted (ap isAccepted e) ∙ rw h)) (ten (ap isAccepted e) h)
 
+  -- a lookup that is a refusal
+  lookup-refused : (n t q : ℕ) → lookupOf s k z c r ≡ Refused n t q → ((isAccepted (outcome s) ≡ true) × (canLook cs k ≡ false) × (10 ≡ n)) ⊎ (outcome s ≡ reading.Refused n t q)
+  lookup-refused n t q =
+      lookup-cases (λ a. a ≡ Refused n t q → ((isAccepted (outcome s) ≡ true) × (canLook cs k ≡ false) × (10 ≡ n)) ⊎ (outcome s ≡ reading.Refused n t q))
+      (λ m u v o e. inr (cc))
+      (λ a h e. inl (a, h, ap number e))
+      (λ a h e. absurd (false≢true (sym (never-refused ts (cs .row k .name) z c r) ∙ ap isRefused e)))
+
   -- 10: "lookup on a contents row that isn't there or whose data_type is not tiles; checked after 8"
   pub lookup-ten : (lookupOf s k z c r ≡ Refused 10 0 0) ↔ ((isAccepted (outcome s) ≡ true) × ((cs .count ≤ k) ⊎ (ofType tiles (cs .row k) ≡ false)))
-  lookup-ten =
-      (lookup-cases (λ a. a ≡ Refused 10 0 0 → (isAccepted (outcome s) ≡ true) × ((cs .count ≤ k) ⊎ (ofType tiles (cs .row k) ≡ false))) (λ n t q o e. absurd (omega (arith, ap number e, ap numberOf o, number-most s))) (λ a h e. (a, can-look cs k .0 h)) (λ a h e. absurd (false≢true (sym (never-refused ts (cs .row k .name) z c r) ∙ ap isRefused e))), λ q. lookup-accepted (q .0) ∙ rw (can-look cs k .1 (q .1)))
+  lookup-ten = (
+    λ e. ⊎-elim (λ h. (h .0, can-look cs k .0 (h .1))) (λ o. absurd (omega (arith, ap numberOf o, number-most s))) (lookup-refused 10 0 0 e),
+    λ q.
+        lookup-accepted (q .0) ∙ rw (can-look cs k .1 (q .1)),
+  )
 
   -- 1 to 8: exactly where the listing is refused so, with that place
   pub lookup-reader : (n t q : ℕ) → n ≤ 8 → (lookupOf s k z c r ≡ Refused n t q) ↔ (outcome s ≡ reading.Refused n t q)
-  lookup-reader n t q h =
-      (lookup-cases (λ a. a ≡ Refused n t q → outcome s ≡ reading.Refused n t q) (λ m u v o e. cc) (λ a b e. absurd (omega (arith, ap number e))) (λ a b e. absurd (false≢true (sym (never-refused ts (cs .row k .name) z c r) ∙ ap isRefused e))), lookup-turned n t q)
+  lookup-reader n t q l = (λ e. ⊎-elim (λ h. absurd (omega (arith, h .2))) (λ o. o) (lookup-refused n t q e), lookup-turned n t q)
 
   -- a row that is returned was looked for in an accepted listing
   lookup-found : (i : ℕ) → lookupOf s k z c r ≡ At i → (isAccepted (outcome s) ≡ true) × (tileAt ts (cs .row k .name) z c r ≡ At i)
   lookup-found i =
-      lookup-cases (λ a. a ≡ At i → (isAccepted (outcome s) ≡ true) × (tileAt ts (cs .row k .name) z c r ≡ At i)) (λ n t q o e. absurd (false≢true (ap isAt e))) (λ a b e. absurd (false≢true (ap isAt e))) (λ a b e. (a, e))
+      lookup-cases (λ a. a ≡ At i → (isAccepted (outcome s) ≡ true) × (tileAt ts (cs .row k .name) z c r ≡ At i))
+      (λ n t q o e. absurd (false≢true (ap isAt e)))
+      (λ a b e. absurd (false≢true (ap isAt e)))
+      (λ a b e. (a, e))
 
   -- what is returned is a tile at the address
   pub lookup-there : (i : ℕ) → lookupOf s k z c r ≡ At i → (i < ts .count) × (here i ≡ true)

@@ -1,9 +1,9 @@
 -- "Every octet string is judged, or refused under one numbered reason": the reasons 1 to 8, their number and place.
-use Prim.Native.Nat.{ℕ, zero, suc, _+_, _*_, _/_, _<_, _≤_, min}
-use mathlib.Core.Path.{_≡_, refl, sym, ap, _∙_, subst}
+use Prim.Native.Nat.{ℕ, zero, suc, _+_, _*_, _<_, _≤_}
+use mathlib.Core.Path.{_≡_, ap}
 use mathlib.Core.Bool.{Bool, true, false, cond, false≢true}
 use mathlib.Core.List.{List, [], _∷_}
-use mathlib.Core.Logic.{_⊎_, inl, inr, _↔_, ⊎-elim}
+use mathlib.Core.Logic.{_⊎_, inl, inr, _↔_}
 use native.Mathlib.Nat.{div-le-self}
 use native.Mathlib.Omega.{arith}
 use borrow.Author.Tests.{ltb-false}
@@ -16,8 +16,8 @@ use Rattle.listing.specs.Listing.{row, count, offset, table, rows, layout}
 use Rattle.listing.specs.Refusals.{Reason, over, moved, badRow, lowestBadRow, badTable, badContents, headerReasons, rowReasons, outcome, numberOf, tableOf, rowOf, isAccepted}
 use Rattle.listing.specs.RefusalLaws.{thereAt, answerAt, Given, given-or-none, reasons, refused-exactly, refused-place, accepted-exactly, accepted-is}
 use Rattle.listing.specs.declared.Outcome.{Outcome}
-use Rattle.listing.specs.declared.Outcome.the-variants.{Accepted, Refused}
-use Rattle.findings.specs.Demands.{Fits, AllFit}
+use Rattle.listing.specs.declared.Outcome.the-variants.{Accepted}
+use Rattle.findings.specs.Demands.{AllFit}
 
 there-below : (xs : List Reason) (k : ℕ) → thereAt xs k ≡ true → k < length xs
 there-below [] k e = absurd (false≢true e)

@@ -1,6 +1,6 @@
 -- "The report holds all findings, each once, by rule then row, and no other": of every octet string.
 use Prim.Native.Nat.{ℕ, _<_}
-use mathlib.Core.Path.{_≡_, refl, sym, ap, _∙_, subst}
+use mathlib.Core.Path.{_≡_, refl, sym, ap, subst}
 use mathlib.Core.Bool.{Bool, true, false, false≢true}
 use mathlib.Core.List.{List, [], _++_}
 use mathlib.Core.Logic.{inl, inr, _↔_, ⊎-elim}
@@ -19,13 +19,13 @@ use Rattle.pack.specs.PackLaws.{rows-numbered}
 use Rattle.rules.specs.Judgments.{none}
 use Rattle.rules.specs.Codes.{codes, tables, codeAt, tableAt, judged, judgedNone}
 use Rattle.rules.specs.declared.Judgment.{Judgment}
-use Rattle.rules.specs.declared.Judgment.the-variants.{Clean, Hit}
+use Rattle.rules.specs.declared.Judgment.the-variants.{Hit}
 use Rattle.findings.specs.Findings.{Finding, found, atRow, atNone, ofCode, ofPlace, findings, seek, tableOf, Ordered}
 use Rattle.findings.specs.Answers.{findingsBy, reported}
 use Rattle.findings.specs.Demands.{Stands, Once, Listed, Due, Asked}
 use Rattle.findings.specs.OrderLaws.{findings-ordered}
 use Rattle.findings.specs.StandsLaws.{stands-left, stands-right, stands-either, stands-gathered, stands-some, ordered-once}
-use Rattle.findings.specs.VerdictLaws.{Place, listed-place}
+use Rattle.findings.specs.VerdictLaws.{listed-place}
 
 -- ---- a judgment's finding stands in the list that it gives, and no other
 found-stands : (f : Finding) (v : Judgment) → v ≡ Hit (f .partner) → Stands f (found (f .code) (f .row) v)

@@ -1,10 +1,9 @@
 -- "Verdicts (pass, fail with first row, not testable) agree with that definition every time", and 9 and the reader's reasons: of every octet string and code.
-use Prim.Native.Nat.{ℕ, zero, suc, _<_, _≤_}
+use Prim.Native.Nat.{ℕ, _≤_}
 use mathlib.Core.Path.{_≡_, refl, sym, ap, _∙_, subst}
 use mathlib.Core.Bool.{Bool, true, false, cond, _||_, false≢true}
 use mathlib.Core.List.{List, [], _∷_}
-use mathlib.Core.Logic.{_⊎_, inl, inr, _↔_, Iff·symm}
-use native.Mathlib.Nat.{le-refl, le-antisymm}
+use mathlib.Core.Logic.{_⊎_, inl, inr, _↔_, ⊎-elim, Iff·symm}
 use native.Mathlib.Omega.{arith}
 use borrow.Author.Tests.{eq-eqb, ne-eqb, eqb-true, eqb-false}
 use lib.Dec.{eqb}
@@ -21,10 +20,10 @@ use Rattle.rules.specs.Contents.{none171}
 use Rattle.rules.specs.Codes.{judgedNone}
 use Rattle.rules.specs.declared.Judgment.{Judgment}
 use Rattle.rules.specs.declared.Judgment.the-variants.{Clean}
-use Rattle.findings.specs.Findings.{Finding, atNone, ofCode, findings, tableOf, only, Every, Before, Ordered}
-use Rattle.findings.specs.Answers.{reported, failOr, alwaysTestable, withoutFinding, ruled, ruledBy, verdictOf}
+use Rattle.findings.specs.Findings.{Finding, atNone, ofCode, findings, tableOf, only, Ordered}
+use Rattle.findings.specs.Answers.{reported, failOr, alwaysTestable, withoutFinding, ruled, verdictOf}
 use Rattle.findings.specs.Words.{rulingWords}
-use Rattle.findings.specs.Demands.{Stands, Listed, Due, Asked, LowestRow, NoFinding, Testable}
+use Rattle.findings.specs.Demands.{Stands, Listed, Asked, LowestRow, NoFinding, Testable}
 use Rattle.findings.specs.VerdictLaws.{verdict-of-list, fail-found, found-fail}
 use Rattle.findings.specs.StandsLaws.{only-stands, stands-only, ordered-only, head-lowest}
 use Rattle.findings.specs.ReportedLaws.{reported-judged, reported-exactly, reported-ordered}
@@ -155,25 +154,42 @@ module _ (s : List ℕ) (c : ℕ) where
       by false (reading.Accepted l) e f = let n = eqb-false (tableOf c) 0 e in let a = ap isAccepted f in subst P (sym (verdict-judged n a)) (judged n a)
       by false (reading.Refused n t r) e f = let l = eqb-false (tableOf c) 0 e in subst P (sym (verdict-turned n t r l f)) (turned n t r l f)
 
+  -- a verdict that is a refusal, and one that is none
+  verdict-refused : (n t r : ℕ) → verdictOf s c ≡ Refused n t r → ((tableOf c ≡ 0) × (9 ≡ n)) ⊎ (Listed c × (outcome s ≡ reading.Refused n t r))
+  verdict-refused n t r =
+      verdict-cases (λ v. v ≡ Refused n t r → ((tableOf c ≡ 0) × (9 ≡ n)) ⊎ (Listed c × (outcome s ≡ reading.Refused n t r)))
+      (λ z e. inl (z, ap number e))
+      (λ m u q l o e. inr (l, cc))
+      (λ l a e. absurd (omega (arith, ap kind e, ruled-kind (packOf s) c)))
+
+  verdict-ruled : (v : Ruling) → kind v ≤ 2 → verdictOf s c ≡ v → (isAccepted (outcome s) ≡ true) × Listed c × (ruled (packOf s) c ≡ v)
+  verdict-ruled v h =
+      verdict-cases (λ w. w ≡ v → (isAccepted (outcome s) ≡ true) × Listed c × (ruled (packOf s) c ≡ v))
+      (λ z e. absurd (omega (arith, ap kind e)))
+      (λ n t r l o e. absurd (omega (arith, ap kind e)))
+      (λ l a e. (a, l, e))
+
   -- 9: "a verdict asked for a code not listed; checked before 1"
   pub verdict-nine : (verdictOf s c ≡ Refused 9 0 0) ↔ (tableOf c ≡ 0)
   verdict-nine =
-      (verdict-cases (λ v. v ≡ Refused 9 0 0 → tableOf c ≡ 0) (λ z e. z) (λ n t r l o e. absurd (omega (arith, ap number e, ap numberOf o, number-most s))) (λ l a e. absurd (omega (arith, ap kind e, ruled-kind (packOf s) c))), verdict-unlisted)
+      (λ e. ⊎-elim (λ h. h .0) (λ h. absurd (omega (arith, ap numberOf (h .1), number-most s))) (verdict-refused 9 0 0 e), verdict-unlisted)
 
   -- 1 to 8: exactly where the code is listed and the listing is refused so, with that place
   pub verdict-reader : (n t r : ℕ) → n ≤ 8 → (verdictOf s c ≡ Refused n t r) ↔ (Listed c × (outcome s ≡ reading.Refused n t r))
-  verdict-reader n t r h =
-      (verdict-cases (λ v. v ≡ Refused n t r → Listed c × (outcome s ≡ reading.Refused n t r)) (λ z e. absurd (omega (arith, ap number e))) (λ m u q l o e. (l, cc)) (λ l a e. absurd (omega (arith, ap kind e, ruled-kind (packOf s) c))), λ q. verdict-turned n t r (q .0) (q .1))
+  verdict-reader n t r l =
+      (λ e. ⊎-elim (λ h. absurd (omega (arith, h .1))) (λ h. h) (verdict-refused n t r e), λ q. verdict-turned n t r (q .0) (q .1))
 
   ordered : isAccepted (outcome s) ≡ true → Ordered (findings (packOf s))
   ordered a = subst Ordered (reported-judged s a) (reported-ordered s)
 
   -- "fail with first row": exactly where the report has a finding of the code, with the lowest row of them
   pub verdict-fail : (i : ℕ) → (verdictOf s c ≡ Fail i) ↔ LowestRow (λ f. Stands f (reported s)) c i
-  verdict-fail i = (verdict-cases (λ v. v ≡ Fail i → LowestRow (λ f. Stands f (reported s)) c i) (λ z e. absurd (omega (arith, ap kind e))) (λ n t r l o e. absurd (omega (arith, ap kind e))) fails, failed)
+  verdict-fail i = (fails, failed)
     where
-      fails : Listed c → isAccepted (outcome s) ≡ true → ruled (packOf s) c ≡ Fail i → LowestRow (λ f. Stands f (reported s)) c i
-      fails l a e = rw (reported-judged s a) (fail-lowest (packOf s) c l (ordered a) i e)
+      fails : verdictOf s c ≡ Fail i → LowestRow (λ f. Stands f (reported s)) c i
+      fails e =
+          let q = verdict-ruled (Fail i) (omega arith) e in
+          rw (reported-judged s (q .0)) (fail-lowest (packOf s) c (q .1) (ordered (q .0)) i (q .2))
 
       failed : LowestRow (λ f. Stands f (reported s)) c i → verdictOf s c ≡ Fail i
       failed h =
@@ -183,26 +199,33 @@ module _ (s : List ℕ) (c : ℕ) where
 
   -- the same by the rules, without the report
   pub verdict-fail-rule : (i : ℕ) → (verdictOf s c ≡ Fail i) ↔ LowestRow (Asked s) c i
-  verdict-fail-rule i =
-      (λ e. lowest-map (λ f. Stands f (reported s)) (Asked s) c i (reported-exactly s) (verdict-fail i .0 e), λ h. verdict-fail i .1 (lowest-map (Asked s) (λ f. Stands f (reported s)) c i (λ f. Iff·symm (reported-exactly s f)) h))
-
-  -- "pass": the code has no finding, and is testable
-  pub verdict-pass : (verdictOf s c ≡ Pass) ↔ ((isAccepted (outcome s) ≡ true) × Listed c × NoFinding (λ f. Stands f (reported s)) c × Testable c (rowsIn (packOf s) (tableOf c)))
-  verdict-pass = (verdict-cases (λ v. v ≡ Pass → Passed) (λ z e. absurd (omega (arith, ap kind e))) (λ n t r l o e. absurd (omega (arith, ap kind e))) passes, passed)
+  verdict-fail-rule i = (to, back)
     where
-      Passed : Type 0
-      Passed = (isAccepted (outcome s) ≡ true) × Listed c × NoFinding (λ f. Stands f (reported s)) c × Testable c (rowsIn (packOf s) (tableOf c))
+      to : verdictOf s c ≡ Fail i → LowestRow (Asked s) c i
+      to e = lowest-map (λ f. Stands f (reported s)) (Asked s) c i (reported-exactly s) (verdict-fail i .0 e)
 
-      passes : Listed c → isAccepted (outcome s) ≡ true → ruled (packOf s) c ≡ Pass → Passed
-      passes l a e =
-          let q = pass-clean (packOf s) c l e in
-          (a, l, rw (reported-judged s a) (q .0), q .1)
+      back : LowestRow (Asked s) c i → verdictOf s c ≡ Fail i
+      back h = verdict-fail i .1 (lowest-map (Asked s) (λ f. Stands f (reported s)) c i (λ f. Iff·symm (reported-exactly s f)) h)
 
-      passed : Passed → verdictOf s c ≡ Pass
-      passed h =
-          verdict-judged (h .1) (h .0) ∙ clean-pass (packOf s) c (h .1) (rw (reported-judged s (h .0)) at (h .2)) (h .3)
+  -- "pass otherwise": the code has no finding, and can be tested
+  pub verdict-pass : (verdictOf s c ≡ Pass)
+      ↔ ((isAccepted (outcome s) ≡ true) × Listed c × NoFinding (λ f. Stands f (reported s)) c × Testable c (rowsIn (packOf s) (tableOf c)))
+  verdict-pass = (
+    λ e.
+        let q = verdict-ruled Pass (omega arith) e in
+        let k = pass-clean (packOf s) c (q .1) (q .2) in
+        (q .0, q .1, rw (reported-judged s (q .0)) (k .0), k .1),
+    λ h.
+        verdict-judged (h .1) (h .0) ∙ clean-pass (packOf s) c (h .1) (rw (reported-judged s (h .0)) at (h .2)) (h .3),
+  )
 
-  -- "not testable": "the code's table is empty and the code is not 111, 112, 113 or 171"
-  pub verdict-not-testable : (verdictOf s c ≡ NotTestable) ↔ ((isAccepted (outcome s) ≡ true) × Listed c × (rowsIn (packOf s) (tableOf c) ≡ 0) × (alwaysTestable c ≡ false))
-  verdict-not-testable =
-      (verdict-cases (λ v. v ≡ NotTestable → (isAccepted (outcome s) ≡ true) × Listed c × (rowsIn (packOf s) (tableOf c) ≡ 0) × (alwaysTestable c ≡ false)) (λ z e. absurd (omega (arith, ap kind e))) (λ n t r l o e. absurd (omega (arith, ap kind e))) (λ l a e. let q = untestable (packOf s) c e in (a, l, q .0, q .1)), λ h. verdict-judged (h .1) (h .0) ∙ not-testable (packOf s) c (h .2) (h .3))
+  -- "not testable where the code's table is empty and the code is not 111, 112, 113 or 171"
+  pub verdict-not-testable : (verdictOf s c ≡ NotTestable)
+      ↔ ((isAccepted (outcome s) ≡ true) × Listed c × (rowsIn (packOf s) (tableOf c) ≡ 0) × (alwaysTestable c ≡ false))
+  verdict-not-testable = (
+    λ e.
+        let q = verdict-ruled NotTestable (omega arith) e in
+        let k = untestable (packOf s) c (q .2) in
+        (q .0, q .1, k .0, k .1),
+    λ h. verdict-judged (h .1) (h .0) ∙ not-testable (packOf s) c (h .2) (h .3),
+  )

@@ -1,21 +1,19 @@
 -- Numbers fit their words: each number of an answer is below 2^32, so that its four octets read as the number itself.
-use Prim.Native.Nat.{ℕ, zero, suc, _+_, _*_, _-_, _^_, _<_, _≤_, min}
+use Prim.Native.Nat.{ℕ, zero, suc, _+_, _*_, _-_, _<_, min}
 use mathlib.Core.Path.{_≡_, refl, sym, ap, _∙_, subst}
 use mathlib.Core.Bool.{Bool, true, false, false≢true}
 use mathlib.Core.List.{List, [], _∷_, _++_, append-assoc}
-use mathlib.Core.Logic.{_⊎_, inl, inr, ⊎-elim}
+use mathlib.Core.Logic.{inl, inr, ⊎-elim}
 use native.Mathlib.Nat.{le-of-suc-le-suc, not-suc-le-zero}
 use native.Mathlib.Omega.{arith}
 use lib.Dec.{ltb, ltb→lt}
 use lib.IntN.{ℤ}
-use lib.ListN.{length, getD, take, drop, length-append, length-take}
+use lib.ListN.{length, getD, take, drop}
 use lib.Seq.{take-append-add}
 use Rattle.octets.specs.Octets.{le32, word}
 use Rattle.octets.specs.OctetLaws.{le32-word, le32-past}
 use Rattle.octets.specs.TableLaws.{at}
-use Rattle.listing.specs.Refusals.{outcome, numberOf, rowOf, isAccepted}
-use Rattle.listing.specs.Refusals.{tableOf as refusedTable}
-use Rattle.listing.specs.declared.Outcome.{Outcome}
+use Rattle.listing.specs.Refusals.{outcome, isAccepted}
 use Rattle.listing.specs.declared.Outcome.the-variants as reading
 use Rattle.pack.specs.Rows.{Pack, rowsIn}
 use Rattle.pack.specs.Tables.{packOf}
