@@ -1,13 +1,13 @@
 -- "Every octet string is judged, or refused under one numbered reason": the reasons 1 to 8, their number and place.
 use Prim.Native.Nat.{ℕ, zero, suc, _+_, _*_, _<_, _≤_}
-use mathlib.Core.Path.{_≡_, ap}
-use mathlib.Core.Bool.{Bool, true, false, cond, false≢true}
+use mathlib.Core.Path.{_≡_, refl, ap}
+use mathlib.Core.Bool.{Bool, true, false, cond, _&&_, and-eq-true-iff, false≢true}
 use mathlib.Core.List.{List, [], _∷_}
 use mathlib.Core.Logic.{_⊎_, inl, inr, _↔_}
 use native.Mathlib.Nat.{div-le-self}
 use native.Mathlib.Omega.{arith}
-use borrow.Author.Tests.{ltb-false}
-use lib.Dec.{leb}
+use borrow.Author.Tests.{ltb-true, ltb-false}
+use lib.Dec.{ltb, leb}
 use lib.ListN.{length, take, drop, length-take, length-drop}
 use Rattle.octets.specs.Octets.{part}
 use Rattle.octets.specs.Search.{first}
@@ -18,6 +18,15 @@ use Rattle.listing.specs.RefusalLaws.{thereAt, answerAt, Given, given-or-none, 
 use Rattle.listing.specs.declared.Outcome.{Outcome}
 use Rattle.listing.specs.declared.Outcome.the-variants.{Accepted}
 use Rattle.findings.specs.Demands.{AllFit}
+
+-- numbers that are written out fit their words: one computed test
+abbrev allSmall : List ℕ → Bool
+allSmall [] = true
+allSmall (n ∷ ns) = ltb n 4294967296 && allSmall ns
+
+pub written-fit : (ns : List ℕ) → allSmall ns ≡ true → AllFit ns
+written-fit [] e = tt
+written-fit (n ∷ ns) e = let q = and-eq-true-iff (ltb n 4294967296) (allSmall ns) .0 e in (ltb-true n 4294967296 (q .0), written-fit ns (q .1))
 
 there-below : (xs : List Reason) (k : ℕ) → thereAt xs k ≡ true → k < length xs
 there-below [] k e = absurd (false≢true e)
@@ -83,12 +92,12 @@ module _ (s : List ℕ) where
 
   given-fits : (k : ℕ) (o : Outcome) → Given (reasons s) k → AllFit (place (answerAt (reasons s) k o))
   unfolding place headerReasons rowReasons
-  given-fits zero o g = (omega arith, (omega arith, (omega arith, tt)))
-  given-fits (suc zero) o g = (omega arith, (omega arith, (omega arith, tt)))
-  given-fits (suc (suc zero)) o g = (omega arith, (omega arith, (omega arith, tt)))
-  given-fits (suc (suc (suc zero))) o g = (omega arith, (omega arith, (omega arith, tt)))
-  given-fits (suc (suc (suc (suc zero)))) o g = (omega arith, (omega (arith, first-lowest (over s) 8 .most), (omega arith, tt)))
-  given-fits (suc (suc (suc (suc (suc zero))))) o g = (omega arith, (omega (arith, first-lowest (moved s) 8 .most), (omega arith, tt)))
+  given-fits zero o g = written-fit (1 ∷ 0 ∷ 0 ∷ []) refl
+  given-fits (suc zero) o g = written-fit (2 ∷ 0 ∷ 0 ∷ []) refl
+  given-fits (suc (suc zero)) o g = written-fit (3 ∷ 0 ∷ 0 ∷ []) refl
+  given-fits (suc (suc (suc zero))) o g = written-fit (4 ∷ 0 ∷ 0 ∷ []) refl
+  given-fits (suc (suc (suc (suc zero)))) o g = (omega arith, (omega (arith, first-lowest (over s) 8 .most), written-fit (0 ∷ []) refl))
+  given-fits (suc (suc (suc (suc (suc zero))))) o g = (omega arith, (omega (arith, first-lowest (moved s) 8 .most), written-fit (0 ∷ []) refl))
   given-fits (suc (suc (suc (suc (suc (suc zero)))))) o g =
       (omega arith, (omega (arith, first-lowest (badTable (table s)) 7 .most), (omega (arith, bad-row-short (first (badTable (table s)) 7), short 6 (omega arith) g), tt)))
   given-fits (suc (suc (suc (suc (suc (suc (suc zero))))))) o g =
@@ -100,5 +109,5 @@ module _ (s : List ℕ) where
   place-fits = by judged-or-refused
     where
       by : (isAccepted (outcome s) ≡ true) ⊎ ((k : ℕ) × (k < 8) × Given (reasons s) k) → AllFit (place (outcome s))
-      by (inl a) = rw (accepted-is s a) (omega arith, (omega arith, (omega arith, tt)))
+      by (inl a) = rw (accepted-is s a) (written-fit (0 ∷ 0 ∷ 0 ∷ []) refl)
       by (inr g) = rw (refused-place s (g .0) (g .2)) (given-fits (g .0) (Accepted (layout s)) (g .2))

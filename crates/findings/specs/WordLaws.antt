@@ -30,7 +30,7 @@ use Rattle.findings.specs.OrderLaws.{Numbered}
 use Rattle.findings.specs.StandsLaws.{every-stands}
 use Rattle.findings.specs.ReportedLaws.{listed-exactly, reported-judged, reported-none, reported-exactly}
 use Rattle.findings.specs.PartnerLaws.{due-partner}
-use Rattle.findings.specs.RefusedLaws.{place-fits}
+use Rattle.findings.specs.RefusedLaws.{written-fit, place-fits}
 use Rattle.findings.specs.RulingLaws.{kind, ruled-kind, verdict-judged, verdict-cases, verdict-fail-rule}
 use Rattle.findings.specs.LocatedLaws.{isRefused, found-there, never-refused, lookup-cases}
 use Rattle.findings.specs.declared.Ruling.{Ruling}
@@ -91,29 +91,32 @@ module _ (s : List ℕ) where
   turned-fits n t r o = rw o at (place-fits s)
 
   pub verdict-fits : (c : ℕ) → AllFit (rulingWords (verdictOf s c))
-  verdict-fits c = verdict-cases s c (λ v. AllFit (rulingWords v)) (λ z. all-small) (λ n t r l o. (omega arith, (omega arith, turned-fits n t r o))) (λ l a. by (ruled (packOf s) c) l a refl)
+  verdict-fits c =
+      verdict-cases s c (λ v. AllFit (rulingWords v))
+      (λ z. written-fit (3 ∷ none ∷ 9 ∷ 0 ∷ 0 ∷ []) refl)
+      (λ n t r l o. (omega arith, (omega arith, turned-fits n t r o)))
+      (λ l a. by (ruled (packOf s) c) l a refl)
     where
-      all-small : AllFit (3 ∷ none ∷ 9 ∷ 0 ∷ 0 ∷ [])
-      all-small = (omega arith, (omega arith, (omega arith, (omega arith, (omega arith, tt)))))
-
       by : (v : Ruling) → Listed c → isAccepted (outcome s) ≡ true → ruled (packOf s) c ≡ v → AllFit (rulingWords v)
-      by ruling.Pass l a e = (omega arith, (omega arith, (omega arith, (omega arith, (omega arith, tt)))))
+      by ruling.Pass l a e = written-fit (0 ∷ none ∷ 0 ∷ 0 ∷ 0 ∷ []) refl
       by (ruling.Fail i) l a e =
           let h = verdict-fail-rule s c i .0 (verdict-judged s c l a ∙ e) in
-          (omega arith, (subst Fits (h .row) (asked-fits (h .finding) (h .holds) .1 .0), (omega arith, (omega arith, (omega arith, tt)))))
-      by ruling.NotTestable l a e = (omega arith, (omega arith, (omega arith, (omega arith, (omega arith, tt)))))
+          (omega arith, (subst Fits (h .row) (asked-fits (h .finding) (h .holds) .1 .0), written-fit (0 ∷ 0 ∷ 0 ∷ []) refl))
+      by ruling.NotTestable l a e = written-fit (2 ∷ none ∷ 0 ∷ 0 ∷ 0 ∷ []) refl
       by (ruling.Refused n t r) l a e = absurd (omega (arith, ap kind e, ruled-kind (packOf s) c))
 
   pub lookup-fits : (k : ℕ) (z c r : ℤ) → AllFit (locatedWords (lookupOf s k z c r))
   unfolding rowsIn
   lookup-fits k z c r =
-      lookup-cases s k z c r (λ a. AllFit (locatedWords a)) (λ n t q o. (omega arith, turned-fits n t q o)) (λ a b. (omega arith, (omega arith, (omega arith, (omega arith, tt)))))
+      lookup-cases s k z c r (λ a. AllFit (locatedWords a))
+      (λ n t q o. (omega arith, turned-fits n t q o))
+      (λ a b. written-fit (none ∷ 10 ∷ 0 ∷ 0 ∷ []) refl)
       (λ a b. by a (tileAt (packOf s .tiles) (packOf s .contents .row k .name) z c r) refl)
     where
       by : isAccepted (outcome s) ≡ true → (v : Located) → tileAt (packOf s .tiles) (packOf s .contents .row k .name) z c r ≡ v → AllFit (locatedWords v)
       by a (look.At i) e =
-          (omega (arith, found-there (packOf s .tiles) (packOf s .contents .row k .name) z c r i e .0, rows-numbered s a 5), (omega arith, (omega arith, (omega arith, tt))))
-      by a look.Nowhere e = (omega arith, (omega arith, (omega arith, (omega arith, tt))))
+          (omega (arith, found-there (packOf s .tiles) (packOf s .contents .row k .name) z c r i e .0, rows-numbered s a 5), written-fit (0 ∷ 0 ∷ 0 ∷ []) refl)
+      by a look.Nowhere e = written-fit (none ∷ 0 ∷ 0 ∷ 0 ∷ []) refl
       by a (look.Refused n t q) e = absurd (false≢true (sym (never-refused (packOf s .tiles) (packOf s .contents .row k .name) z c r) ∙ ap isRefused e))
 
 -- ---- reading: a word of some that fit
