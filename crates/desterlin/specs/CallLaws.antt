@@ -17,7 +17,7 @@ use Rattle.findings.specs.Demands.{Stands, AllFit}
 use Rattle.findings.specs.StandsLaws.{stands-right, every-stands}
 use Rattle.findings.specs.ReportedLaws.{reported-none}
 use Rattle.findings.specs.RefusedLaws.{accepted-number}
-use Rattle.findings.specs.WordLaws.{buffer-none, words-read, finding-read, findings-fit, report-fits, verdict-fits, lookup-fits}
+use Rattle.findings.specs.WordLaws.{buffer-none, buffer-past, words-read, finding-read, findings-fit, report-fits, verdict-fits, lookup-fits}
 use Rattle.findings.specs.declared.Ruling.{Ruling}
 use Rattle.findings.specs.declared.Ruling.the-variants.{Pass, Fail, NotTestable, Refused}
 use Rattle.findings.specs.declared.Located.{Located}
@@ -100,6 +100,10 @@ module _ {s b w a : List ℕ} {r : ℕ} {b′ w′ a′ : List ℕ} (p : ReportC
 
       written : length before < writtenOf (before ++ f ∷ after) b
       written = subst (λ (n : ℕ). length before < n) (report-written ∙ ap (λ (fs : List Finding). writtenOf fs b) e) l
+
+  -- "words past those keep their values", and so do the octets past the last whole word
+  pub report-past : (j : ℕ) → 12 * le32 a′ 16 ≤ j → getD b′ j 0 ≡ getD b j 0
+  report-past j l = ap (λ (x : List ℕ). getD x j 0) wrote ∙ buffer-past (reported s) b j (subst (λ (n : ℕ). 12 * n ≤ j) report-written l)
 
   -- "a refusal writes nothing": findings and workspace keep their octets, total and written are 0
   pub report-refused-kept : (le32 a′ 0 ≡ 0 → ⊥) → (b′ ≡ b) × (w′ ≡ w) × (le32 a′ 12 ≡ 0) × (le32 a′ 16 ≡ 0)

@@ -1,5 +1,5 @@
 -- Numbers fit their words: each number of an answer is below 2^32, so that its four octets read as the number itself.
-use Prim.Native.Nat.{ℕ, zero, suc, _+_, _*_, _-_, _<_, min}
+use Prim.Native.Nat.{ℕ, zero, suc, _+_, _*_, _-_, _<_, _≤_, min}
 use mathlib.Core.Path.{_≡_, refl, sym, ap, _∙_, subst}
 use mathlib.Core.Bool.{Bool, true, false, false≢true}
 use mathlib.Core.List.{List, [], _∷_, _++_, append-assoc}
@@ -8,8 +8,8 @@ use native.Mathlib.Nat.{le-of-suc-le-suc, not-suc-le-zero}
 use native.Mathlib.Omega.{arith}
 use lib.Dec.{ltb, ltb→lt}
 use lib.IntN.{ℤ}
-use lib.ListN.{length, getD, take, drop}
-use lib.Seq.{take-append-add}
+use lib.ListN.{length, getD, take, drop, length-take}
+use lib.Seq.{take-append-add, getD-append-add, getD-drop}
 use Rattle.octets.specs.Octets.{le32, word}
 use Rattle.octets.specs.OctetLaws.{le32-word, le32-past}
 use Rattle.octets.specs.TableLaws.{at}
@@ -140,6 +140,17 @@ octets-length (f ∷ fs) = omega (arith, octets-length fs)
 pub buffer-none : (b : List ℕ) → bufferOf [] b ≡ b
 unfolding bufferOf writtenOf
 buffer-none b = let z : min 0 (room b) ≡ 0 = omega arith in rw z
+
+-- "words past those keep their values"
+pub buffer-past : (fs : List Finding) (b : List ℕ) (j : ℕ) → 12 * writtenOf fs b ≤ j → getD (bufferOf fs b) j 0 ≡ getD b j 0
+unfolding bufferOf writtenOf
+buffer-past fs b j h =
+    let w : ℕ = min (length fs) (room b) in
+    let os : List ℕ = findingOctets (take w fs) in
+    let l : length os ≡ 12 * w = octets-length (take w fs) ∙ simp length-take (omega arith) in
+    let e : j ≡ length os + (j - 12 * w) = omega arith in
+    let d : 12 * w + (j - 12 * w) ≡ j = omega arith in
+    ap (λ (n : ℕ). getD (os ++ drop (12 * w) b) n 0) e ∙ getD-append-add os (drop (12 * w) b) (j - 12 * w) 0 ∙ getD-drop (12 * w) b (j - 12 * w) 0 ∙ ap (λ (n : ℕ). getD b n 0) d
 
 -- a finding that is written reads, in its place, as its code, row and partner
 read-after : (before : List Finding) (f : Finding) (after : List Finding) (rest : List ℕ) (m k : ℕ) → AllFit (wordsOf f) → k < 3
