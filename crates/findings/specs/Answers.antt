@@ -13,9 +13,10 @@ use Rattle.listing.specs.declared.Outcome.the-variants as reading
 use Rattle.pack.specs.Rows.{Rows, Content, Tile, Pack, rowsIn}
 use Rattle.pack.specs.Tables.{packOf}
 use Rattle.rules.specs.Judgments.{none, firstRow}
+use Rattle.rules.specs.Codes.{tableOf}
 use Rattle.rules.specs.Contents.{ofType}
 use Rattle.rules.specs.Tiles.{atAddress}
-use Rattle.findings.specs.Findings.{Finding, ofCode, findings, tableOf}
+use Rattle.findings.specs.Findings.{Finding, ofCode, findings}
 use Rattle.findings.specs.declared.Ruling.{Ruling}
 use Rattle.findings.specs.declared.Ruling.the-variants as ruling
 use Rattle.findings.specs.declared.Located.{Located}

@@ -1,4 +1,4 @@
--- `judge::tiles/of_range` meets its contract.
+-- `judge::tiles::of_range` meets its contract.
 use mathlib.Core.Path.{_∙_}
 use Rattle.pack.specs.Tables.{tileOf}
 use Rattle.rules.specs.Tiles.{of551}
