@@ -12,7 +12,7 @@ from typing import List
 
 from packs import ROOT, SECOND, InRoom, Ran, judged_by_second, needs_library
 
-from desterlin import judge
+from desterlin import library
 
 TESTS = ROOT / "tests" / "tools"
 SAMPLES = ROOT / "samples"
@@ -189,14 +189,14 @@ class Viewer(InRoom):
 
 
 @needs_library
-class Judge(unittest.TestCase):
+class CallLibrary(unittest.TestCase):
     def test_under_the_sanitizers_it_prints_what_the_second_program_does(self) -> None:
         os.environ["ASAN_OPTIONS"] = "detect_leaks=0"
-        ran = Ran([TESTS / "cc-sanitized", ROOT / "tools" / "judge.c", "-o", BUILT / "judge"])
+        ran = Ran([TESTS / "cc-sanitized", ROOT / "tools" / "call-library.c", "-o", BUILT / "call-library"])
         self.assertEqual((ran.status, ran.err), (0, ""))
         listings = [path.read_bytes() for path in sorted(SAMPLES.glob("*.listing"))]
         for listing in [*listings, Ran([SECOND, "full", "pyramids", 262_144]).octets]:
-            ran = Ran([BUILT / "judge"], listing)
+            ran = Ran([BUILT / "call-library"], listing)
             self.assertEqual((ran.status, ran.err), (0, ""))
             self.assertEqual(ran.out, judged_by_second(listing))
 
@@ -208,7 +208,7 @@ class Stack(InRoom):
         compiler = os.environ.get("DESTERLIN_CC") or ROOT / "tools" / "cc-x86-64"
         flags = ["-std=c99", "-pedantic", "-Wall", "-Wextra", "-Werror", "-O1", "-pthread"]
         sources = [TESTS / "stack.c", TESTS / "walled.c"]
-        ran = Ran([compiler, *flags, "-Iinclude", "-Itests/tools", *sources, judge.library(), "-o", BUILT / "stack"])
+        ran = Ran([compiler, *flags, "-Iinclude", "-Itests/tools", *sources, library.archive(), "-o", BUILT / "stack"])
         self.assertEqual((ran.status, ran.err), (0, ""))
         large = self.room / "large.listing"
         large.write_bytes(Ran([SECOND, "full", "pyramids", 262_144]).octets)
