@@ -84,11 +84,11 @@ enum desterlin_reason {
  * Report: everything that is wrong with a listing.
  *
  * answer (DESTERLIN_REPORT_ANSWER octets), five words:
- *   0 number   0 accepted, or 1 to 8 (enum desterlin_reason)
- *   1 table    \ place of the refusal; 0 0 where accepted
- *   2 row      /
- *   3 total    how many findings the listing has; 0 where refused
- *   4 written  how many of them stand in findings: the smaller of total and size / DESTERLIN_FINDING
+ *   0 number         0 accepted, or 1 to 8 (enum desterlin_reason)
+ *   1 refused table  \ place of the refusal; 0 0 where accepted
+ *   2 refused row    /
+ *   3 total          how many findings the listing has; 0 where refused
+ *   4 written        how many of them stand in findings: the smaller of total and size / DESTERLIN_FINDING
  *
  * findings: DESTERLIN_FINDING octets each, three words: code, row, partner; row and partner may be DESTERLIN_NONE.
  * They are in order by code, then by row, none last, and each stands once. The buffer may be short, or empty:
@@ -103,8 +103,8 @@ uint32_t desterlin_report(const uint8_t *listing, size_t listing_size,
 
 enum desterlin_report_word {
     DESTERLIN_REPORT_NUMBER = 0,
-    DESTERLIN_REPORT_TABLE = 1,
-    DESTERLIN_REPORT_ROW = 2,
+    DESTERLIN_REPORT_REFUSED_TABLE = 1,
+    DESTERLIN_REPORT_REFUSED_ROW = 2,
     DESTERLIN_REPORT_TOTAL = 3,
     DESTERLIN_REPORT_WRITTEN = 4
 };
@@ -113,11 +113,11 @@ enum desterlin_report_word {
  * Verdict: does the listing keep the rule of one code?
  *
  * answer (DESTERLIN_VERDICT_ANSWER octets), five words:
- *   0 verdict  enum desterlin_ruling
- *   1 row      of a fail: the lowest row with a finding, or none where the finding has no row; otherwise none
- *   2 number   0 accepted, or 1 to 9 (enum desterlin_reason)
- *   3 table    \ place of the refusal; 0 0 where accepted
- *   4 row      /
+ *   0 ruling         enum desterlin_ruling
+ *   1 first row      of a fail: the lowest row with a finding, or none where the finding has no row; otherwise none
+ *   2 number         0 accepted, or 1 to 9 (enum desterlin_reason)
+ *   3 refused table  \ place of the refusal; 0 0 where accepted
+ *   4 refused row    /
  */
 uint32_t desterlin_verdict(const uint8_t *listing, size_t listing_size,
                            uint32_t code,
@@ -126,10 +126,10 @@ uint32_t desterlin_verdict(const uint8_t *listing, size_t listing_size,
 
 enum desterlin_verdict_word {
     DESTERLIN_VERDICT_RULING = 0,
-    DESTERLIN_VERDICT_FOUND = 1,
+    DESTERLIN_VERDICT_FIRST_ROW = 1,
     DESTERLIN_VERDICT_NUMBER = 2,
-    DESTERLIN_VERDICT_TABLE = 3,
-    DESTERLIN_VERDICT_ROW = 4
+    DESTERLIN_VERDICT_REFUSED_TABLE = 3,
+    DESTERLIN_VERDICT_REFUSED_ROW = 4
 };
 
 enum desterlin_ruling {
@@ -143,10 +143,10 @@ enum desterlin_ruling {
  * Lookup: which tile row has this address, under the table_name of this contents row?
  *
  * answer (DESTERLIN_LOOKUP_ANSWER octets), four words:
- *   0 tile     the lowest tile row with that name, zoom, column and row, or none
- *   1 number   0 accepted, or 1 to 8 or 10 (enum desterlin_reason)
- *   2 table    \ place of the refusal; 0 0 where accepted
- *   3 row      /
+ *   0 tile           the lowest tile row with that name, zoom, column and row, or none
+ *   1 number         0 accepted, or 1 to 8 or 10 (enum desterlin_reason)
+ *   2 refused table  \ place of the refusal; 0 0 where accepted
+ *   3 refused row    /
  */
 uint32_t desterlin_lookup(const uint8_t *listing, size_t listing_size,
                           uint32_t contents_row, int64_t zoom, int64_t column, int64_t row,
@@ -155,8 +155,8 @@ uint32_t desterlin_lookup(const uint8_t *listing, size_t listing_size,
 enum desterlin_lookup_word {
     DESTERLIN_LOOKUP_TILE = 0,
     DESTERLIN_LOOKUP_NUMBER = 1,
-    DESTERLIN_LOOKUP_TABLE = 2,
-    DESTERLIN_LOOKUP_ROW = 3
+    DESTERLIN_LOOKUP_REFUSED_TABLE = 2,
+    DESTERLIN_LOOKUP_REFUSED_ROW = 3
 };
 
 /*

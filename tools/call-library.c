@@ -53,7 +53,8 @@ static int print_report(size_t size)
     uint32_t number = desterlin_word(answer, DESTERLIN_REPORT_NUMBER);
     if (number != DESTERLIN_ACCEPTED) {
         printf("refused %" PRIu32 " %" PRIu32 " %" PRIu32 "\n", number,
-               desterlin_word(answer, DESTERLIN_REPORT_TABLE), desterlin_word(answer, DESTERLIN_REPORT_ROW));
+               desterlin_word(answer, DESTERLIN_REPORT_REFUSED_TABLE),
+               desterlin_word(answer, DESTERLIN_REPORT_REFUSED_ROW));
         return JUDGED;
     }
     uint32_t total = desterlin_word(answer, DESTERLIN_REPORT_TOTAL);

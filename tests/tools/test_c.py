@@ -28,6 +28,13 @@ screen: contents row 0, zoom 1, columns 0 to 1
 """
 
 
+ANSWERS = {
+    "report": ["number", "refused table", "refused row", "total", "written"],
+    "verdict": ["ruling", "first row", "number", "refused table", "refused row"],
+    "lookup": ["tile", "number", "refused table", "refused row"],
+}
+
+
 class Header(unittest.TestCase):
     STRICT = ["-pedantic", "-Wall", "-Wextra", "-Werror", "-fsyntax-only", f"-I{ROOT / 'include'}"]
 
@@ -54,6 +61,20 @@ class Header(unittest.TestCase):
         declared += re.findall(r"^    (\w+) = \d+,?\s*$", code, re.M)
         self.assertGreater(len(declared), 40)
         self.assertEqual({name for name in declared if not name.lower().startswith("desterlin_")}, set())
+
+    def test_the_words_of_an_answer_are_called_what_they_are(self) -> None:
+        """In the enumerations, in the comments above them and in docs/API.md. A row is never just a row: it is the
+        first one with a finding, or that of the refusal."""
+        text = (ROOT / "include" / "desterlin.h").read_text(encoding="utf-8")
+        page = (ROOT / "docs" / "API.md").read_text(encoding="utf-8")
+        for call, words in ANSWERS.items():
+            enumeration = text.split(f"enum desterlin_{call}_word {{")[1].split("}")[0]
+            named = re.findall(rf"DESTERLIN_{call.upper()}_(\w+) = (\d)", enumeration)
+            self.assertEqual(named, [(word.upper().replace(" ", "_"), str(at)) for at, word in enumerate(words)])
+            told = text.split(f"(DESTERLIN_{call.upper()}_ANSWER octets)")[1].split("*/")[0]
+            self.assertEqual(re.findall(r"^ \*   (\d) ([a-z ]+?)  ", told, re.M), list(zip("01234", words)))
+            row = re.findall(rf"^\| {call} \| {4 * len(words)} octets \| (.*) \|$", page, re.M)
+            self.assertEqual([re.sub(r" \(.*?\)", "", line).split(", ") for line in row], [words])
 
     def macros(self, source: bytes) -> "set[str]":
         ran = Ran(["cc", "-std=c99", "-dM", "-E", f"-I{ROOT / 'include'}", "-x", "c", "-"], source)

@@ -139,8 +139,8 @@ def parts_of(crate: str) -> Set[str]:
 
 
 def program() -> Path:
-    """The compiled call-library. Its name has the sum of what it is made of: who finds it there takes no lock and writes
-    nothing, so a checkout serves people who may only read it."""
+    """The compiled call-library. Its name has the sum of what it is made of: who finds it there takes no lock and
+    writes nothing, so a checkout serves people who may only read it."""
     compiler = os.environ.get("DESTERLIN_CC") or str(ROOT / "tools" / "cc-x86-64")
     linked = archive()
     command = [compiler, *FLAGS, str(SOURCE), str(linked)]
@@ -166,7 +166,7 @@ def compile_program(command: List[str], made: Path) -> None:
         if ran.returncode != 0:
             words = ran.stdout.decode("utf-8", "replace").strip()
             raise Trouble(f"call-library.c cannot be compiled: {shlex.join(whole)}\n{words}")
-        # What cc-x86-64 puts beside the program has a longer name and comes first: the program is there once it can run.
+        # What cc-x86-64 puts beside the program has a longer name and comes first: a program that is there can run.
         for path in sorted(Path(folder).iterdir(), reverse=True):
             path.rename(BUILT / path.name)
 
