@@ -208,6 +208,18 @@ static int screen_of(char **words, struct screen *screen)
     return 1;
 }
 
+/* A tile row of a listing has 32 octets, so there are no more tiles than that. Where there is less memory, say so. */
+static void lend_work(struct lent *lent)
+{
+    size_t wanted = DESTERLIN_WORK_FOR(lent->listing_size / 32);
+    lent->work_size = wanted;
+    while (lent->work_size > 0 && (lent->work = malloc(lent->work_size)) == NULL)
+        lent->work_size /= 2;
+    if (lent->work_size < wanted)
+        fprintf(stderr, "%zu octets of work memory in place of %zu: the same answers, which may take longer\n",
+                lent->work_size, wanted);
+}
+
 static int look_at(const char *path, const struct screen *screen)
 {
     struct lent lent = { NULL, 0, NULL, 0 };
@@ -216,9 +228,7 @@ static int look_at(const char *path, const struct screen *screen)
         free(lent.listing);
         return UNUSABLE;
     }
-    /* Without work memory the answers are the same and take longer. */
-    lent.work = malloc(DESTERLIN_WORK_FULL);
-    lent.work_size = lent.work == NULL ? 0 : DESTERLIN_WORK_FULL;
+    lend_work(&lent);
 
     int status = report(&lent);
     if (status != UNUSABLE) {

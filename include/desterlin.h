@@ -43,11 +43,26 @@ extern "C" {
 
 /*
  * Work is scratch memory that the caller lends to report and verdict. Its size changes the time of a call and never
- * its answer: any size is good, 0 too, and this one serves every listing at full speed. What it holds before a call
- * does not matter. After an accepted call its octets are unspecified; a call that is refused, or that returns 0,
- * leaves them as they were.
+ * its answer: any size is good, 0 too. What it holds before a call does not matter. After an accepted call its octets
+ * are unspecified; a call that is refused, or that returns 0, leaves them as they were.
+ *
+ * What a size costs, in octets:
+ *
+ *   DESTERLIN_WORK_FULL         full speed for 262,144 tiles, the most that there may be
+ *   DESTERLIN_WORK_FOR(tiles)   full speed for so many tiles: 8 for each of them, and 96 KiB for the other tables
+ *   96 KiB + 6 or 5 a tile      up to a tenth or a third longer
+ *   64 KiB + 4 a tile, or less  each matrix that may break 351 looks through all tiles
+ *   4 a tile, or less           541 compares each tile with all before it: the time grows with the square of the tiles,
+ *                               and 262,144 of them take some ten thousand times as long
+ *   4 a matrix, or less         each tile looks through all matrices
+ *
+ * Full speed is that of packs as programs write them. Rows are found by hashes of their keys: a listing made on purpose
+ * so that many keys fall together takes longer with any size, and so does one with thousands of matrices of one name,
+ * which 531 compares with each other.
  */
 #define DESTERLIN_WORK_FULL 2097152
+#define DESTERLIN_WORK_FOR(tiles) \
+    ((size_t)(tiles) < (DESTERLIN_WORK_FULL - 98304) / 8 ? 98304 + 8 * (size_t)(tiles) : (size_t)DESTERLIN_WORK_FULL)
 
 /* The tables of a listing, as in the place of a refusal. */
 enum desterlin_table {

@@ -8,16 +8,22 @@ import shutil
 import subprocess
 import unittest
 from pathlib import Path
-from typing import List
+from typing import List, Tuple
 
 from packs import ROOT, SECOND, InRoom, Ran, judged_by_second, needs_library
 
 from desterlin import library
+from desterlin.listing import CONTENTS, MATRICES, SETS, TILES
 
 TESTS = ROOT / "tests" / "tools"
 SAMPLES = ROOT / "samples"
 BUILT = ROOT / "target" / "tests" / "tools"
-TWICE = b'#include "desterlin.h"\n#include "desterlin.h"\nint main(void) { return 0; }\n'
+TWICE = b"""\
+#include "desterlin.h"
+#include "desterlin.h"
+static uint8_t work[DESTERLIN_WORK_FOR(1000)];
+int main(void) { return work[0]; }
+"""
 MADE_SCREEN = """\
 report: 1 finding
   541 row 5, partner row 3: two tiles at one address
@@ -79,6 +85,82 @@ class Header(unittest.TestCase):
     def macros(self, source: bytes) -> "set[str]":
         ran = Ran(["cc", "-std=c99", "-dM", "-E", f"-I{ROOT / 'include'}", "-x", "c", "-"], source)
         return {line.split()[1].split("(")[0] for line in ran.out.splitlines()}
+
+
+def work_for(tiles: List[int]) -> List[int]:
+    """What the header's DESTERLIN_WORK_FOR says, and in the end DESTERLIN_WORK_FULL."""
+    prints = "".join(f'printf("%zu\\n", DESTERLIN_WORK_FOR({number}));' for number in tiles)
+    full = 'printf("%d\\n", DESTERLIN_WORK_FULL);'
+    source = f'#include <stdio.h>\n#include "desterlin.h"\nint main(void) {{ {prints} {full} return 0; }}\n'
+    BUILT.mkdir(parents=True, exist_ok=True)
+    program = BUILT / "work-for"
+    ran = Ran(["cc", "-std=c99", f"-I{ROOT / 'include'}", "-x", "c", "-", "-o", program], source.encode())
+    assert ran.status == 0, ran.err
+    return [int(line) for line in Ran([program]).out.splitlines()]
+
+
+def constant(name: str, source: str) -> int:
+    text = (ROOT / "crates" / source).read_text(encoding="utf-8")
+    return int(re.findall(rf"^(?:pub )?const {name}: usize = (\d+);$", text, re.M)[0])
+
+
+def spare_heads() -> int:
+    """Those that an index has beyond its rows, where there is room."""
+    try:
+        return constant("SPARE_HEADS", "index/src/work.rt")
+    except IndexError:
+        text = (ROOT / "crates" / "index" / "src" / "work.rt").read_text(encoding="utf-8")
+        return int(re.findall(r"let some = rows \+ (\d+);", text)[0])
+
+
+class Work(unittest.TestCase):
+    """The sizes of the workspace that the header names, by the numbers of the code. Full speed is that of an index with
+    15 heads for 16 rows at the least."""
+
+    first_part, spare = constant("FIRST_PART", "report/src/walk.rt"), spare_heads()
+    tried = sorted({0, 1, 1000, *range(0, TILES.most, 4093), TILES.most - 1, TILES.most})
+
+    def heads_for(self, octets: int, rows: int) -> int:
+        """As crates/index/src/work.rt has it: a word for each row, and the rest for heads, but so many at the most."""
+        return max(0, min(octets // 4 - rows, rows + self.spare))
+
+    def indexes(self, work: int, tiles: int) -> List[Tuple[int, int]]:
+        """The heads and the rows of each index that a report may make: 541 and the survey have all of the work, the
+        other codes two parts of it (judge::prepare and prepare_more)."""
+        first = min(work, self.first_part)
+        whole = [tiles, MATRICES.most, CONTENTS.most]
+        parts = [(first, table.most) for table in (CONTENTS, SETS, MATRICES)]
+        parts += [(work - first, rows) for rows in (tiles, MATRICES.most)]
+        return [(self.heads_for(room, rows), rows) for room, rows in [*((work, rows) for rows in whole), *parts]]
+
+    def test_is_enough_for_full_speed(self) -> None:
+        for tiles, work in zip(self.tried, work_for(self.tried)):
+            with self.subTest(tiles=tiles, work=work):
+                for heads, rows in self.indexes(work, tiles):
+                    self.assertGreaterEqual(16 * heads, 15 * rows)
+
+    def test_is_no_more_than_can_be_used(self) -> None:
+        for tiles, work in zip(self.tried, work_for(self.tried)):
+            most_used = self.first_part + 8 * max(tiles, MATRICES.most) + 4 * self.spare
+            self.assertLessEqual(work, most_used)
+
+    def test_the_full_size_is_that_of_the_most_tiles(self) -> None:
+        *sizes, full = work_for(self.tried)
+        self.assertEqual((sizes[-1], max(sizes), full), (full, full, 2 << 20))
+        self.assertEqual(work_for([2 * TILES.most, -1]), [full, full, full])
+
+    def test_what_a_smaller_one_lacks(self) -> None:
+        """The sizes at which the header says that an index is missing: at so many octets it is, and with one word more
+        it is there."""
+        tiles, matrices = TILES.most, MATRICES.most
+        for octets, rows in [(4 * tiles, tiles), (4 * matrices, matrices)]:
+            self.assertEqual([self.heads_for(octets, rows), self.heads_for(octets + 4, rows)], [0, 1])
+        self.assertEqual(self.first_part, 64 << 10)
+
+    def test_no_page_promises_more(self) -> None:
+        for page in ["include/desterlin.h", "docs/API.md"]:
+            text = (ROOT / page).read_text(encoding="utf-8")
+            self.assertNotRegex(text, r"every\s(\* )?listing\s(\* )?at\s(\* )?full\s(\* )?speed")
 
 
 class Makefile(InRoom):
@@ -188,6 +270,20 @@ class Viewer(InRoom):
         ran = Ran([self.program, SAMPLES / "good-pack.listing", 1, 0, 0, 0, 0, 0])
         self.assertEqual((ran.status, ran.err), (0, ""))
         self.assertIn("lookup refused: reason 10, table 0, row 0: ", ran.out)
+
+    def test_less_work_memory_than_wanted_is_told(self) -> None:
+        program, scarce = BUILT / "viewer-scarce", "-Dmalloc=scarce_malloc"
+        ran = Ran([
+            TESTS / "cc-sanitized", scarce, "-include", TESTS / "walled.h", TESTS / "walled.c",
+            ROOT / "examples" / "viewer.c", "-o", program,
+        ])
+        self.assertEqual((ran.status, ran.err), (0, ""))
+        listing = SAMPLES / "doubled-address.listing"
+        ran = Ran([program, listing])
+        wanted = work_for([listing.stat().st_size // 32])[0]
+        told = f"{wanted // 2} octets of work memory in place of {wanted}: the same answers, which may take longer\n"
+        self.assertEqual((ran.status, ran.err), (1, told))
+        self.assertEqual(ran.out, Ran([self.program, listing]).out)
 
     def test_wrong_words(self) -> None:
         wrong: "List[List[object]]" = [[], ["a", "b"], [SAMPLES / "good-pack.listing", 0, 0, 5, 4, 0, 0], ["/nowhere"]]
