@@ -2,7 +2,8 @@
  * Desterlin for a C program: report, verdict and lookup on one listing.
  *
  * A listing is the rows of a GeoPackage 1.2.1 as one string of octets; docs/LISTING.md has its layout, docs/RULES.md
- * what each code means. Link with target/staticlib/libdesterlin.a, which `rt staticlib desterlin` proves and writes.
+ * what each code means. Link with target/staticlib/libdesterlin.a, which `rt staticlib desterlin` proves and writes: it
+ * is x86-64 code. README.md says how a library for another machine is made, and what has to be assumed for it.
  *
  * What holds for all three calls:
  *
@@ -106,7 +107,8 @@ enum desterlin_reason {
  *   4 written        how many of them stand in findings: the smaller of total and size / DESTERLIN_FINDING
  *
  * findings: DESTERLIN_FINDING octets each, three words: code, row, partner; row and partner may be DESTERLIN_NONE.
- * They are in order by code, then by row, none last, and each stands once. The buffer may be short, or empty:
+ * The row is one of the code's table (DESTERLIN_CODES), and so is the partner, but for 162: its partner is a matrix set
+ * row. They are in order by code, then by row, none last, and each stands once. The buffer may be short, or empty:
  * the first ones are written, and octets past those written keep their values. So a first call with no findings
  * buffer tells the total, and a second one with total * DESTERLIN_FINDING octets has room for all of them.
  * A refused report writes nothing to findings.
@@ -156,6 +158,9 @@ enum desterlin_ruling {
 
 /*
  * Lookup: which tile row has this address, under the table_name of this contents row?
+ *
+ * It costs one pass over the listing, which is checked as in every call and then searched for the tile; nothing is kept
+ * for the next one. Who draws many tiles from one listing does better with a table of their own, made once.
  *
  * answer (DESTERLIN_LOOKUP_ANSWER octets), four words:
  *   0 tile           the lowest tile row with that name, zoom, column and row, or none

@@ -14,6 +14,7 @@ from packs import ROOT, SECOND, InRoom, Ran, judged_by_second, needs_library
 
 from desterlin import library
 from desterlin.listing import CONTENTS, MATRICES, SETS, TILES
+from desterlin.rules import RULES
 
 TESTS = ROOT / "tests" / "tools"
 SAMPLES = ROOT / "samples"
@@ -81,6 +82,25 @@ class Header(unittest.TestCase):
             self.assertEqual(re.findall(r"^ \*   (\d) ([a-z ]+?)  ", told, re.M), list(zip("01234", words)))
             row = re.findall(rf"^\| {call} \| {4 * len(words)} octets \| (.*) \|$", page, re.M)
             self.assertEqual([re.sub(r" \(.*?\)", "", line).split(", ") for line in row], [words])
+
+    def test_what_nobody_would_guess_is_told(self) -> None:
+        told = self.told()
+        self.assertIn("It costs one pass over the listing", told)
+        elsewhere = {code: rule.partner_table for code, rule in RULES.items() if rule.partner_table is not rule.table}
+        self.assertEqual(elsewhere, {162: SETS})
+        self.assertIn("but for 162: its partner is a matrix set row", told)
+
+    @needs_library
+    def test_the_archive_is_for_the_machine_that_is_told(self) -> None:
+        self.assertIn("libdesterlin.a, which `rt staticlib desterlin` proves and writes: it is x86-64 code", self.told())
+        octets = library.archive(may_build=False).read_bytes()
+        objects = [match.start() for match in re.finditer(b"\x7fELF", octets)]
+        x86_64 = 62
+        self.assertEqual({octets[start + 18] for start in objects}, {x86_64})
+
+    def told(self) -> str:
+        """The header in one line, without the stars of its comments."""
+        return re.sub(r"\s+(\* )?", " ", (ROOT / "include" / "desterlin.h").read_text(encoding="utf-8"))
 
     def macros(self, source: bytes) -> "set[str]":
         ran = Ran(["cc", "-std=c99", "-dM", "-E", f"-I{ROOT / 'include'}", "-x", "c", "-"], source)
