@@ -30,6 +30,12 @@
 extern "C" {
 #endif
 
+/*
+ * The edition of this header and of the library that goes with it. It rises by one with each request that changes what
+ * a caller has compiled: a call, a word of an answer, a size, a code. desterlin.pc has the same one.
+ */
+#define DESTERLIN_VERSION 1
+
 /* "None", where a word would be a row number: no row, no partner, no tile. */
 #define DESTERLIN_NONE UINT32_C(4294967295)
 

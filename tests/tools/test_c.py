@@ -1,11 +1,11 @@
-"""The C side: the header, the example as it stands, and the example and the calls under walls and sanitizers."""
+"""The C side: the header, the workspace, and the example and the calls under walls and sanitizers."""
 
 from __future__ import annotations
 
+import hashlib
 import os
 import re
 import shutil
-import subprocess
 import unittest
 from pathlib import Path
 from typing import List, Tuple
@@ -25,15 +25,9 @@ TWICE = b"""\
 static uint8_t work[DESTERLIN_WORK_FOR(1000)];
 int main(void) { return work[0]; }
 """
-MADE_SCREEN = """\
-report: 1 finding
-  541 row 5, partner row 3: two tiles at one address
-verdict on 541 (two tiles at one address): fail, first at row 5
-screen: contents row 0, zoom 1, columns 0 to 1
-  row 0: 1 2
-  row 1: 3 4
-"""
 
+# The sum of the header's code, without comments, in each version.
+COMPILED = {1: "e12eb21fc7902aa5"}
 
 ANSWERS = {
     "report": ["number", "refused table", "refused row", "total", "written"],
@@ -92,11 +86,19 @@ class Header(unittest.TestCase):
 
     @needs_library
     def test_the_archive_is_for_the_machine_that_is_told(self) -> None:
-        self.assertIn("libdesterlin.a, which `rt staticlib desterlin` proves and writes: it is x86-64 code", self.told())
+        self.assertIn("which `rt staticlib desterlin` proves and writes: it is x86-64 code", self.told())
         octets = library.archive(may_build=False).read_bytes()
         objects = [match.start() for match in re.finditer(b"\x7fELF", octets)]
         x86_64 = 62
         self.assertEqual({octets[start + 18] for start in objects}, {x86_64})
+
+    def test_the_version_rises_with_what_a_caller_compiles(self) -> None:
+        """A request that changes the header's code raises DESTERLIN_VERSION and adds a line to COMPILED."""
+        text = (ROOT / "include" / "desterlin.h").read_text(encoding="utf-8")
+        code = " ".join(re.sub(r"/\*.*?\*/", " ", text, flags=re.S).split())
+        version = int(re.findall(r"#define DESTERLIN_VERSION (\d+)", code)[0])
+        self.assertEqual({version: hashlib.sha256(code.encode()).hexdigest()[:16]}, {version: COMPILED[version]})
+        self.assertEqual(version, max(COMPILED))
 
     def told(self) -> str:
         """The header in one line, without the stars of its comments."""
@@ -181,25 +183,6 @@ class Work(unittest.TestCase):
         for page in ["include/desterlin.h", "docs/API.md"]:
             text = (ROOT / page).read_text(encoding="utf-8")
             self.assertNotRegex(text, r"every\s(\* )?listing\s(\* )?at\s(\* )?full\s(\* )?speed")
-
-
-class Makefile(InRoom):
-    def make(self, *words: str) -> "subprocess.CompletedProcess[str]":
-        env = {name: value for name, value in os.environ.items() if name not in ("CC", "MAKEFLAGS", "MAKELEVEL")}
-        command = ["make", "-s", "-C", str(ROOT / "examples"), *words]
-        return subprocess.run(command, env=env, capture_output=True, text=True, check=False)
-
-    def test_says_what_to_do_without_the_library(self) -> None:
-        ran = self.make(f"LIBRARY={self.room}/none.a", f"BUILT={self.room}")
-        self.assertEqual((ran.returncode, ran.stdout), (2, ""))
-        self.assertIn("The proved library is not built yet.", ran.stderr)
-        self.assertIn("rt staticlib desterlin", ran.stderr)
-
-    @needs_library
-    def test_builds_and_runs_the_viewer(self) -> None:
-        named = {"LIBRARY": os.environ.get("DESTERLIN_LIBRARY"), "CC": os.environ.get("DESTERLIN_CC")}
-        ran = self.make(f"BUILT={self.room}", *(f"{name}={value}" for name, value in named.items() if value))
-        self.assertEqual((ran.returncode, ran.stdout, ran.stderr), (0, MADE_SCREEN, ""))
 
 
 def sanitizers() -> str:
