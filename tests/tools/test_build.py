@@ -162,8 +162,8 @@ class SecondUser(Checkout):
         for path in [self.checkout, *self.checkout.rglob("*")]:
             path.chmod(path.stat().st_mode & 0o555)
         self.addCleanup(self.allow)
-        # root may write everywhere, unless it gives that up.
-        giving_up = ["setpriv", "--bounding-set=-dac_override", "--"] if os.geteuid() == 0 else []
+        # root may read and write everything, unless it gives that up.
+        giving_up = ["setpriv", "--bounding-set=-dac_override,-dac_read_search", "--"] if os.geteuid() == 0 else []
         return self.run_it([*giving_up, *self.command()])
 
     def allow(self) -> None:
@@ -188,6 +188,18 @@ class SecondUser(Checkout):
         ran = self.as_another()
         self.assertEqual((ran.returncode, ran.stdout), (2, ""))
         self.assertIn("call-library.c cannot be compiled: ", ran.stderr)
+
+    def test_hears_what_may_not_be_read_or_run(self) -> None:
+        self.first_check()
+        built = self.checkout / "target"
+        # On some machines there is another file beside the program, with a longer name.
+        program = min((built / "tools").glob("call-library-*"), key=lambda path: len(path.name))
+        archive = built / "staticlib" / "libdesterlin.a"
+        for path, mode, told in [(program, 0o444, "cannot be run"), (archive, 0, "cannot be read")]:
+            path.chmod(mode)
+            ran = self.as_another()
+            self.assertEqual((ran.returncode, ran.stdout), (2, ""))
+            self.assertEqual(ran.stderr, f"gpkg-check: {path}: {told}: Permission denied\n")
 
 
 class Compiled(Checkout):

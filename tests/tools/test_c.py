@@ -121,25 +121,20 @@ def work_for(tiles: List[int]) -> List[int]:
     return [int(line) for line in Ran([program]).out.splitlines()]
 
 
-def constant(name: str, source: str) -> int:
-    text = (ROOT / "crates" / source).read_text(encoding="utf-8")
-    return int(re.findall(rf"^(?:pub )?const {name}: usize = (\d+);$", text, re.M)[0])
-
-
-def spare_heads() -> int:
-    """Those that an index has beyond its rows, where there is room."""
-    try:
-        return constant("SPARE_HEADS", "index/src/work.rt")
-    except IndexError:
-        text = (ROOT / "crates" / "index" / "src" / "work.rt").read_text(encoding="utf-8")
-        return int(re.findall(r"let some = rows \+ (\d+);", text)[0])
+def constant(crate: str, pattern: str) -> int:
+    """The one number that a crate has where the pattern says."""
+    sources = sorted((ROOT / "crates" / crate / "src").glob("*.rt"))
+    numbers = re.findall(pattern, "".join(source.read_text(encoding="utf-8") for source in sources), re.M)
+    assert len(numbers) == 1, (crate, pattern, numbers)
+    return int(numbers[0])
 
 
 class Work(unittest.TestCase):
     """The sizes of the workspace that the header names, by the numbers of the code. Full speed is that of an index with
     15 heads for 16 rows at the least."""
 
-    first_part, spare = constant("FIRST_PART", "report/src/walk.rt"), spare_heads()
+    first_part = constant("report", r"^(?:pub )?const FIRST_PART: usize = (\d+);$")
+    spare = constant("index", r"^(?:(?:pub )?const SPARE_HEADS: usize =| +let some = rows \+) (\d+);$")
     tried = sorted({0, 1, 1000, *range(0, TILES.most, 4093), TILES.most - 1, TILES.most})
 
     def heads_for(self, octets: int, rows: int) -> int:

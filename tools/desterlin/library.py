@@ -37,7 +37,11 @@ class Refusal(NamedTuple):
 
 def judged(octets: bytes) -> Union[Refusal, List[Finding]]:
     """All findings of a listing, in the library's order, or why it refuses the listing."""
-    ran = subprocess.run([str(program())], input=octets, stdout=subprocess.PIPE, stderr=subprocess.PIPE, check=False)
+    caller = str(program())
+    try:
+        ran = subprocess.run([caller], input=octets, stdout=subprocess.PIPE, stderr=subprocess.PIPE, check=False)
+    except OSError as error:
+        raise Trouble(f"{caller}: cannot be run: {told(error)}") from error
     if ran.returncode != 0:
         words = ran.stderr.decode("utf-8", "replace").strip() or f"it ended with status {ran.returncode}"
         raise Trouble(f"the library's program failed: {words}")
@@ -70,9 +74,9 @@ def archive(may_build: bool = True) -> Path:
     older than crates/ or not, and is built where it is missing."""
     named = os.environ.get("DESTERLIN_LIBRARY")
     found = Path(named) if named else ARCHIVE
-    if may_build and not named and not found.is_file():
+    if may_build and not named and not os.path.isfile(found):
         build()
-    if not found.is_file():
+    if not os.path.isfile(found):
         raise Trouble(
             f"the proved library is not built: there is no {found}\n"
             f"build it with:  cd {shlex.quote(str(ROOT))} && {shlex.join(BUILD)}"
@@ -86,7 +90,7 @@ def build() -> None:
     progress.say("the proved library is not built; another check may be building it")
     with locked("the proved library is not built, and cannot be here"):
         progress.clear()
-        if not ARCHIVE.is_file():
+        if not os.path.isfile(ARCHIVE):
             words = f"gpkg-check: the proved library is not built yet; {shlex.join(BUILD)} takes some minutes"
             print(words, file=sys.stderr, flush=True)
             run_build(progress)
@@ -145,9 +149,9 @@ def program() -> Path:
     linked = archive()
     command = [compiler, *FLAGS, str(SOURCE), str(linked)]
     made = BUILT / f"call-library-{sum_of(command, [SOURCE, HEADER, linked])}"
-    if not made.exists():
+    if not os.path.exists(made):
         with locked("call-library.c cannot be compiled"):
-            if not made.exists():
+            if not os.path.exists(made):
                 compile_program(command, made)
     return made
 
@@ -155,7 +159,10 @@ def program() -> Path:
 def sum_of(command: List[str], files: List[Path]) -> str:
     total = hashlib.sha256(shlex.join(command).encode())
     for path in files:
-        total.update(hashlib.sha256(path.read_bytes()).digest())
+        try:
+            total.update(hashlib.sha256(path.read_bytes()).digest())
+        except OSError as error:
+            raise Trouble(f"{path}: cannot be read: {told(error)}") from error
     return total.hexdigest()[:16]
 
 
