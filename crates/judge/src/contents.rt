@@ -1,17 +1,17 @@
 // The rules on contents: 131, 151, 161, 162, 171, 401; and tiles names: 341, 391, 431.
 ghost use mathlib.Core.Path.{_≡_};
+ghost use mathlib.Core.List.{map};
 ghost use mathlib.Core.Bool.{not};
 ghost use Prim.Native.Nat.{_/_};
 ghost use lib.ListN.{length};
 ghost use Rattle.octets.specs.Search.{first};
 ghost use Rattle.octets.specs.Texts.{spell};
-ghost use Rattle.index.specs.declared.Kind.the-variants.{TilesName, SetName};
-ghost use Rattle.index.specs.Keys.{Indexes};
 ghost use Rattle.pack.specs.Tables.{contentOf, contentsOf, referencesOf, setsOf, packIn};
 ghost use Rattle.rules.specs.Judgments.{faultIf};
 ghost use Rattle.rules.specs.Contents.{isTilesName, breaks162, of131, of151, of161, of162, none171, of401};
-ghost use mathlib.Core.List.{map};
 ghost use Rattle.rules.specs.Codes.{tableOf, judged};
+ghost use Rattle.index.specs.declared.Kind.the-variants.{TilesName, SetName};
+ghost use Rattle.index.specs.Keys.{Indexes};
 ghost use Rattle.judge.specs.Plans.{planOf, Prepared};
 use crate::judgments::fault_if;
 use crate::judgments::partner_of;

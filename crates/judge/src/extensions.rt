@@ -1,12 +1,12 @@
 // The rules on extensions: 601, 621, 622, 641. A text is taken apart where NULL matters: it is octets, or it is NULL.
 ghost use mathlib.Core.Path.{_≡_};
+ghost use mathlib.Core.List.{map};
 ghost use mathlib.Core.Bool.{_||_};
 ghost use Rattle.octets.specs.Texts.{same, octetsOf};
 ghost use Rattle.spelling.specs.ExtensionNames.{isExtensionName};
 ghost use Rattle.spelling.specs.Words.{readWrite, writeOnly};
 ghost use Rattle.pack.specs.Tables.{extensionOf, extensionsOf, packIn};
 ghost use Rattle.rules.specs.Extensions.{of601, of621, of622, of641};
-ghost use mathlib.Core.List.{map};
 ghost use Rattle.rules.specs.Codes.{tableOf, judged};
 use crate::judgments::fault_if;
 use crate::judgments::partner_of;

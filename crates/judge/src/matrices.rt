@@ -1,5 +1,6 @@
 // The rules on matrices: 351, 432, 451, 452, 461, 471, 481, 491, 501, 511, 521, 531 (431 goes by tiles names).
 ghost use mathlib.Core.Path.{_≡_};
+ghost use mathlib.Core.List.{map};
 ghost use Prim.Native.Nat.{ℕ, _/_};
 ghost use mathlib.Core.Bool.{true, not};
 ghost use lib.IntN.{sucℤ};
@@ -12,11 +13,10 @@ ghost use Rattle.doubles.specs.Doubles.{positive};
 ghost use Rattle.pack.specs.Tables.{matrixOf, matricesOf, setsOf, tilesOf, extensionsOf, packIn};
 ghost use Rattle.rules.specs.Judgments.{faultIf, some};
 ghost use Rattle.rules.specs.Matrices.{atLevel, tileNamed, frees, breaks351, of351, of432, measured, of531};
+ghost use Rattle.rules.specs.Codes.{tableOf, judged};
 ghost use Rattle.index.specs.declared.Kind.the-variants.{TileName, Level, MatrixName, SetName};
 ghost use Rattle.index.specs.Keys.{Indexes, Shelves};
 ghost use Rattle.judge.specs.Axes.{fitsAlong, ofMeasured};
-ghost use mathlib.Core.List.{map};
-ghost use Rattle.rules.specs.Codes.{tableOf, judged};
 ghost use Rattle.judge.specs.Plans.{planOf, Prepared, PreparedMore};
 use crate::Axis;
 use crate::contents::unless_tiles_name;

@@ -1,11 +1,11 @@
 // The rules on reference systems: 101, 111, 112, 113.
 ghost use mathlib.Core.Path.{_≡_};
+ghost use mathlib.Core.List.{map};
 ghost use Rattle.octets.specs.Numbers.{signed};
 ghost use Rattle.spelling.specs.LetterCase.{inAnyCase};
 ghost use Rattle.pack.specs.Tables.{referenceOf, referencesOf, packIn};
 ghost use Rattle.rules.specs.Judgments.{faultIf};
 ghost use Rattle.rules.specs.References.{of101, wrong111, of111, wrongUndefined, lacksId};
-ghost use mathlib.Core.List.{map};
 ghost use Rattle.rules.specs.Codes.{tableOf, judged};
 use crate::judgments::fault_if;
 use crate::judgments::partner_of;

@@ -1,5 +1,6 @@
 // The rules on matrix sets: 392 (391 goes by tiles names, 411 by ids); and the search for a set of a name.
 ghost use mathlib.Core.Path.{_≡_};
+ghost use mathlib.Core.List.{map};
 ghost use Prim.Native.Nat.{_/_};
 ghost use lib.ListN.{length};
 ghost use Rattle.octets.specs.Search.{first};
@@ -7,10 +8,9 @@ ghost use Rattle.octets.specs.Texts.{spell};
 ghost use Rattle.pack.specs.Tables.{setOf, setsOf, packIn};
 ghost use Rattle.rules.specs.Contents.{setNamed};
 ghost use Rattle.rules.specs.Sets.{of392};
+ghost use Rattle.rules.specs.Codes.{tableOf, judged};
 ghost use Rattle.index.specs.declared.Kind.the-variants.{SetName};
 ghost use Rattle.index.specs.Keys.{Indexes};
-ghost use mathlib.Core.List.{map};
-ghost use Rattle.rules.specs.Codes.{tableOf, judged};
 ghost use Rattle.judge.specs.Plans.{planOf, Prepared};
 use crate::contents::unless_tiles_name;
 use crate::judgments::with_earlier;

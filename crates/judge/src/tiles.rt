@@ -1,19 +1,19 @@
 // The rules on tiles: 441, 541, 551, 561, 571 (341 goes by tiles names).
 ghost use mathlib.Core.Path.{_≡_};
+ghost use mathlib.Core.List.{map};
 ghost use Prim.Native.Nat.{_/_};
 ghost use lib.IntN.{pos};
 ghost use lib.ListN.{length};
 ghost use Rattle.octets.specs.Numbers.{signed};
 ghost use Rattle.octets.specs.Search.{any};
 ghost use Rattle.octets.specs.Texts.{spell};
+ghost use Rattle.pack.specs.Tables.{matrixOf, matricesOf, tileOf, tilesOf, packIn};
+ghost use Rattle.rules.specs.Tiles.{of441, of541, of551, offGrid, placed};
+ghost use Rattle.rules.specs.Codes.{tableOf, judged};
 ghost use Rattle.seek.specs.Tests.{matrixPasses};
 ghost use Rattle.index.specs.declared.Kind.the-variants.{Level, MatrixName};
 ghost use Rattle.index.specs.Keys.{Indexes, Shelves, Confines};
-ghost use Rattle.pack.specs.Tables.{matrixOf, matricesOf, tileOf, tilesOf, packIn};
-ghost use Rattle.rules.specs.Tiles.{of441, of541, of551, offGrid, placed};
 ghost use Rattle.judge.specs.Axes.{offAlong, ofPlaced};
-ghost use mathlib.Core.List.{map};
-ghost use Rattle.rules.specs.Codes.{tableOf, judged};
 ghost use Rattle.judge.specs.Plans.{planOf, Prepared, PreparedMore};
 use crate::Axis;
 use crate::contents::unless_tiles_name;
@@ -82,7 +82,7 @@ fn has_level(
         < n
 }
 
-// Its zoom is outside those of its name's matrix rows.
+// 551 of a tile whose level has no row: its zoom is outside those of its name's matrix rows.
 fn of_range(
     matrices: &[u8],
     names: &[u8],

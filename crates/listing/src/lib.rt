@@ -45,7 +45,7 @@ impl ReferenceTable {
         Self { count, offset }
     }
 
-    // As the header has it.
+    // What the header says of this table.
     pub fn read(s: &[u8]) -> Self
         ensures { λ r. ⌜ (r .count ≡ count (now (s .entry)) 1) × (r .offset ≡ offset (now (s .entry)) 1) ⌝ }
     {
@@ -69,7 +69,7 @@ impl ContentsTable {
         Self { count, offset }
     }
 
-    // As the header has it.
+    // What the header says of this table.
     pub fn read(s: &[u8]) -> Self
         ensures { λ r. ⌜ (r .count ≡ count (now (s .entry)) 2) × (r .offset ≡ offset (now (s .entry)) 2) ⌝ }
     {
@@ -93,7 +93,7 @@ impl SetTable {
         Self { count, offset }
     }
 
-    // As the header has it.
+    // What the header says of this table.
     pub fn read(s: &[u8]) -> Self
         ensures { λ r. ⌜ (r .count ≡ count (now (s .entry)) 3) × (r .offset ≡ offset (now (s .entry)) 3) ⌝ }
     {
@@ -117,7 +117,7 @@ impl MatrixTable {
         Self { count, offset }
     }
 
-    // As the header has it.
+    // What the header says of this table.
     pub fn read(s: &[u8]) -> Self
         ensures { λ r. ⌜ (r .count ≡ count (now (s .entry)) 4) × (r .offset ≡ offset (now (s .entry)) 4) ⌝ }
     {
@@ -141,7 +141,7 @@ impl TileTable {
         Self { count, offset }
     }
 
-    // As the header has it.
+    // What the header says of this table.
     pub fn read(s: &[u8]) -> Self
         ensures { λ r. ⌜ (r .count ≡ count (now (s .entry)) 5) × (r .offset ≡ offset (now (s .entry)) 5) ⌝ }
     {
@@ -165,7 +165,7 @@ impl ExtensionTable {
         Self { count, offset }
     }
 
-    // As the header has it.
+    // What the header says of this table.
     pub fn read(s: &[u8]) -> Self
         ensures { λ r. ⌜ (r .count ≡ count (now (s .entry)) 6) × (r .offset ≡ offset (now (s .entry)) 6) ⌝ }
     {
@@ -189,7 +189,7 @@ impl NameTable {
         Self { count, offset }
     }
 
-    // As the header has it.
+    // What the header says of this table.
     pub fn read(s: &[u8]) -> Self
         ensures { λ r. ⌜ (r .count ≡ count (now (s .entry)) 7) × (r .offset ≡ offset (now (s .entry)) 7) ⌝ }
     {

@@ -1,14 +1,13 @@
 // The verdict of one code.
 ghost use mathlib.Core.Path.{_≡_};
 ghost use mathlib.Core.List.{map};
-ghost use Rattle.rules.specs.Codes.{tableOf};
-ghost use Rattle.findings.specs.Answers.{alwaysTestable, withoutFinding};
-ghost use Rattle.findings.specs.Answers.{ruled};
-ghost use Rattle.report.specs.Promises.{VerdictOf};
 ghost use mathlib.Core.Bool.{true};
 ghost use Rattle.listing.specs.Refusals.{outcome, isAccepted};
 ghost use Rattle.pack.specs.Tables.{packIn, packOf};
+ghost use Rattle.rules.specs.Codes.{tableOf};
+ghost use Rattle.findings.specs.Answers.{alwaysTestable, withoutFinding, ruled};
 ghost use Rattle.findings.specs.OrderLaws.{Numbered};
+ghost use Rattle.report.specs.Promises.{VerdictOf};
 use crate::Tally;
 use crate::walk::add_code;
 use findings::Ruling;
