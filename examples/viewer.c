@@ -102,8 +102,8 @@ static int report(const struct lent *lent)
     desterlin_report(lent->listing, lent->listing_size, NULL, 0, lent->work, lent->work_size, answer, sizeof answer);
     uint32_t number = desterlin_word(answer, DESTERLIN_REPORT_NUMBER);
     if (number != DESTERLIN_ACCEPTED) {
-        print_refusal("report", number, desterlin_word(answer, DESTERLIN_REPORT_TABLE),
-                      desterlin_word(answer, DESTERLIN_REPORT_ROW));
+        print_refusal("report", number, desterlin_word(answer, DESTERLIN_REPORT_REFUSED_TABLE),
+                      desterlin_word(answer, DESTERLIN_REPORT_REFUSED_ROW));
         return UNUSABLE;
     }
     uint32_t total = desterlin_word(answer, DESTERLIN_REPORT_TOTAL);
@@ -142,7 +142,7 @@ static void print_verdict(const struct lent *lent, uint32_t code)
         printf("pass\n");
         break;
     case DESTERLIN_FAIL:
-        print_row("fail, first at ", desterlin_word(answer, DESTERLIN_VERDICT_FOUND));
+        print_row("fail, first at ", desterlin_word(answer, DESTERLIN_VERDICT_FIRST_ROW));
         printf("\n");
         break;
     case DESTERLIN_NOT_TESTABLE:
@@ -150,7 +150,8 @@ static void print_verdict(const struct lent *lent, uint32_t code)
         break;
     default:
         print_refusal("verdict", desterlin_word(answer, DESTERLIN_VERDICT_NUMBER),
-                      desterlin_word(answer, DESTERLIN_VERDICT_TABLE), desterlin_word(answer, DESTERLIN_VERDICT_ROW));
+                      desterlin_word(answer, DESTERLIN_VERDICT_REFUSED_TABLE),
+                      desterlin_word(answer, DESTERLIN_VERDICT_REFUSED_ROW));
     }
 }
 
@@ -168,8 +169,8 @@ static void print_screen(const struct lent *lent, const struct screen *screen)
             uint32_t number = desterlin_word(answer, DESTERLIN_LOOKUP_NUMBER);
             if (number != DESTERLIN_ACCEPTED) {
                 printf(" ");
-                print_refusal("lookup", number, desterlin_word(answer, DESTERLIN_LOOKUP_TABLE),
-                              desterlin_word(answer, DESTERLIN_LOOKUP_ROW));
+                print_refusal("lookup", number, desterlin_word(answer, DESTERLIN_LOOKUP_REFUSED_TABLE),
+                              desterlin_word(answer, DESTERLIN_LOOKUP_REFUSED_ROW));
                 return;
             }
             uint32_t tile = desterlin_word(answer, DESTERLIN_LOOKUP_TILE);
@@ -207,6 +208,18 @@ static int screen_of(char **words, struct screen *screen)
     return 1;
 }
 
+/* A tile row of a listing has 32 octets, so there are no more tiles than that. Where there is less memory, say so. */
+static void lend_work(struct lent *lent)
+{
+    size_t wanted = DESTERLIN_WORK_FOR(lent->listing_size / 32);
+    lent->work_size = wanted;
+    while (lent->work_size > 0 && (lent->work = malloc(lent->work_size)) == NULL)
+        lent->work_size /= 2;
+    if (lent->work_size < wanted)
+        fprintf(stderr, "%zu octets of work memory in place of %zu: the same answers, which may take longer\n",
+                lent->work_size, wanted);
+}
+
 static int look_at(const char *path, const struct screen *screen)
 {
     struct lent lent = { NULL, 0, NULL, 0 };
@@ -215,9 +228,7 @@ static int look_at(const char *path, const struct screen *screen)
         free(lent.listing);
         return UNUSABLE;
     }
-    /* Without work memory the answers are the same and take longer. */
-    lent.work = malloc(DESTERLIN_WORK_FULL);
-    lent.work_size = lent.work == NULL ? 0 : DESTERLIN_WORK_FULL;
+    lend_work(&lent);
 
     int status = report(&lent);
     if (status != UNUSABLE) {

@@ -2,7 +2,8 @@
  * Desterlin for a C program: report, verdict and lookup on one listing.
  *
  * A listing is the rows of a GeoPackage 1.2.1 as one string of octets; docs/LISTING.md has its layout, docs/RULES.md
- * what each code means. Link with target/staticlib/libdesterlin.a, which `rt staticlib desterlin` proves and writes.
+ * what each code means. Link with target/staticlib/libdesterlin.a, which `rt staticlib desterlin` proves and writes: it
+ * is x86-64 code. README.md says how a library for another machine is made, and what has to be assumed for it.
  *
  * What holds for all three calls:
  *
@@ -29,6 +30,12 @@
 extern "C" {
 #endif
 
+/*
+ * The edition of this header and of the library that goes with it. It rises by one with each request that changes what
+ * a caller has compiled: a call, a word of an answer, a size, a code. desterlin.pc has the same one.
+ */
+#define DESTERLIN_VERSION 1
+
 /* "None", where a word would be a row number: no row, no partner, no tile. */
 #define DESTERLIN_NONE UINT32_C(4294967295)
 
@@ -43,11 +50,26 @@ extern "C" {
 
 /*
  * Work is scratch memory that the caller lends to report and verdict. Its size changes the time of a call and never
- * its answer: any size is good, 0 too, and this one serves every listing at full speed. What it holds before a call
- * does not matter. After an accepted call its octets are unspecified; a call that is refused, or that returns 0,
- * leaves them as they were.
+ * its answer: any size is good, 0 too. What it holds before a call does not matter. After an accepted call its octets
+ * are unspecified; a call that is refused, or that returns 0, leaves them as they were.
+ *
+ * What a size costs, in octets:
+ *
+ *   DESTERLIN_WORK_FULL         full speed for 262,144 tiles, the most that there may be
+ *   DESTERLIN_WORK_FOR(tiles)   full speed for so many tiles: 8 for each of them, and 96 KiB for the other tables
+ *   96 KiB + 6 or 5 a tile      up to a tenth or a third longer
+ *   64 KiB + 4 a tile, or less  each matrix that may break 351 looks through all tiles
+ *   4 a tile, or less           541 compares each tile with all before it: the time grows with the square of the tiles,
+ *                               and 262,144 of them take some ten thousand times as long
+ *   4 a matrix, or less         each tile looks through all matrices
+ *
+ * Full speed is that of packs as programs write them. Rows are found by hashes of their keys: a listing made on purpose
+ * so that many keys fall together takes longer with any size, and so does one with thousands of matrices of one name,
+ * which 531 compares with each other.
  */
 #define DESTERLIN_WORK_FULL 2097152
+#define DESTERLIN_WORK_FOR(tiles) \
+    ((size_t)(tiles) < (DESTERLIN_WORK_FULL - 98304) / 8 ? 98304 + 8 * (size_t)(tiles) : (size_t)DESTERLIN_WORK_FULL)
 
 /* The tables of a listing, as in the place of a refusal. */
 enum desterlin_table {
@@ -84,14 +106,15 @@ enum desterlin_reason {
  * Report: everything that is wrong with a listing.
  *
  * answer (DESTERLIN_REPORT_ANSWER octets), five words:
- *   0 number   0 accepted, or 1 to 8 (enum desterlin_reason)
- *   1 table    \ place of the refusal; 0 0 where accepted
- *   2 row      /
- *   3 total    how many findings the listing has; 0 where refused
- *   4 written  how many of them stand in findings: the smaller of total and size / DESTERLIN_FINDING
+ *   0 number         0 accepted, or 1 to 8 (enum desterlin_reason)
+ *   1 refused table  \ place of the refusal; 0 0 where accepted
+ *   2 refused row    /
+ *   3 total          how many findings the listing has; 0 where refused
+ *   4 written        how many of them stand in findings: the smaller of total and size / DESTERLIN_FINDING
  *
  * findings: DESTERLIN_FINDING octets each, three words: code, row, partner; row and partner may be DESTERLIN_NONE.
- * They are in order by code, then by row, none last, and each stands once. The buffer may be short, or empty:
+ * The row is one of the code's table (DESTERLIN_CODES), and so is the partner, but for 162: its partner is a matrix set
+ * row. They are in order by code, then by row, none last, and each stands once. The buffer may be short, or empty:
  * the first ones are written, and octets past those written keep their values. So a first call with no findings
  * buffer tells the total, and a second one with total * DESTERLIN_FINDING octets has room for all of them.
  * A refused report writes nothing to findings.
@@ -103,8 +126,8 @@ uint32_t desterlin_report(const uint8_t *listing, size_t listing_size,
 
 enum desterlin_report_word {
     DESTERLIN_REPORT_NUMBER = 0,
-    DESTERLIN_REPORT_TABLE = 1,
-    DESTERLIN_REPORT_ROW = 2,
+    DESTERLIN_REPORT_REFUSED_TABLE = 1,
+    DESTERLIN_REPORT_REFUSED_ROW = 2,
     DESTERLIN_REPORT_TOTAL = 3,
     DESTERLIN_REPORT_WRITTEN = 4
 };
@@ -113,11 +136,11 @@ enum desterlin_report_word {
  * Verdict: does the listing keep the rule of one code?
  *
  * answer (DESTERLIN_VERDICT_ANSWER octets), five words:
- *   0 verdict  enum desterlin_ruling
- *   1 row      of a fail: the lowest row with a finding, or none where the finding has no row; otherwise none
- *   2 number   0 accepted, or 1 to 9 (enum desterlin_reason)
- *   3 table    \ place of the refusal; 0 0 where accepted
- *   4 row      /
+ *   0 ruling         enum desterlin_ruling
+ *   1 first row      of a fail: the lowest row with a finding, or none where the finding has no row; otherwise none
+ *   2 number         0 accepted, or 1 to 9 (enum desterlin_reason)
+ *   3 refused table  \ place of the refusal; 0 0 where accepted
+ *   4 refused row    /
  */
 uint32_t desterlin_verdict(const uint8_t *listing, size_t listing_size,
                            uint32_t code,
@@ -126,10 +149,10 @@ uint32_t desterlin_verdict(const uint8_t *listing, size_t listing_size,
 
 enum desterlin_verdict_word {
     DESTERLIN_VERDICT_RULING = 0,
-    DESTERLIN_VERDICT_FOUND = 1,
+    DESTERLIN_VERDICT_FIRST_ROW = 1,
     DESTERLIN_VERDICT_NUMBER = 2,
-    DESTERLIN_VERDICT_TABLE = 3,
-    DESTERLIN_VERDICT_ROW = 4
+    DESTERLIN_VERDICT_REFUSED_TABLE = 3,
+    DESTERLIN_VERDICT_REFUSED_ROW = 4
 };
 
 enum desterlin_ruling {
@@ -142,11 +165,14 @@ enum desterlin_ruling {
 /*
  * Lookup: which tile row has this address, under the table_name of this contents row?
  *
+ * It costs one pass over the listing, which is checked as in every call and then searched for the tile; nothing is kept
+ * for the next one. Who draws many tiles from one listing does better with a table of their own, made once.
+ *
  * answer (DESTERLIN_LOOKUP_ANSWER octets), four words:
- *   0 tile     the lowest tile row with that name, zoom, column and row, or none
- *   1 number   0 accepted, or 1 to 8 or 10 (enum desterlin_reason)
- *   2 table    \ place of the refusal; 0 0 where accepted
- *   3 row      /
+ *   0 tile           the lowest tile row with that name, zoom, column and row, or none
+ *   1 number         0 accepted, or 1 to 8 or 10 (enum desterlin_reason)
+ *   2 refused table  \ place of the refusal; 0 0 where accepted
+ *   3 refused row    /
  */
 uint32_t desterlin_lookup(const uint8_t *listing, size_t listing_size,
                           uint32_t contents_row, int64_t zoom, int64_t column, int64_t row,
@@ -155,8 +181,8 @@ uint32_t desterlin_lookup(const uint8_t *listing, size_t listing_size,
 enum desterlin_lookup_word {
     DESTERLIN_LOOKUP_TILE = 0,
     DESTERLIN_LOOKUP_NUMBER = 1,
-    DESTERLIN_LOOKUP_TABLE = 2,
-    DESTERLIN_LOOKUP_ROW = 3
+    DESTERLIN_LOOKUP_REFUSED_TABLE = 2,
+    DESTERLIN_LOOKUP_REFUSED_ROW = 3
 };
 
 /*

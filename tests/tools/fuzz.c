@@ -252,7 +252,8 @@ static void check_verdict(struct chance *chance, struct lent listing, const uint
             fails = 1;
         }
     }
-    check((ruling == DESTERLIN_FAIL) == (fails == 1) && desterlin_word(answer.octets, DESTERLIN_VERDICT_FOUND) == first,
+    check((ruling == DESTERLIN_FAIL) == (fails == 1)
+              && desterlin_word(answer.octets, DESTERLIN_VERDICT_FIRST_ROW) == first,
           "verdict: fails with the first row that the report has for the code");
 }
 

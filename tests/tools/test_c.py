@@ -1,31 +1,39 @@
-"""The C side: the header, the example as it stands, and the example and the calls under walls and sanitizers."""
+"""The C side: the header, the workspace, and the example and the calls under walls and sanitizers."""
 
 from __future__ import annotations
 
+import hashlib
 import os
 import re
 import shutil
-import subprocess
 import unittest
 from pathlib import Path
-from typing import List
+from typing import List, Tuple
 
 from packs import ROOT, SECOND, InRoom, Ran, judged_by_second, needs_library
 
-from desterlin import judge
+from desterlin import library
+from desterlin.listing import CONTENTS, MATRICES, SETS, TILES
+from desterlin.rules import RULES
 
 TESTS = ROOT / "tests" / "tools"
 SAMPLES = ROOT / "samples"
 BUILT = ROOT / "target" / "tests" / "tools"
-TWICE = b'#include "desterlin.h"\n#include "desterlin.h"\nint main(void) { return 0; }\n'
-MADE_SCREEN = """\
-report: 1 finding
-  541 row 5, partner row 3: two tiles at one address
-verdict on 541 (two tiles at one address): fail, first at row 5
-screen: contents row 0, zoom 1, columns 0 to 1
-  row 0: 1 2
-  row 1: 3 4
+TWICE = b"""\
+#include "desterlin.h"
+#include "desterlin.h"
+static uint8_t work[DESTERLIN_WORK_FOR(1000)];
+int main(void) { return work[0]; }
 """
+
+# The sum of the header's code, without comments, in each version.
+COMPILED = {1: "e12eb21fc7902aa5"}
+
+ANSWERS = {
+    "report": ["number", "refused table", "refused row", "total", "written"],
+    "verdict": ["ruling", "first row", "number", "refused table", "refused row"],
+    "lookup": ["tile", "number", "refused table", "refused row"],
+}
 
 
 class Header(unittest.TestCase):
@@ -55,28 +63,121 @@ class Header(unittest.TestCase):
         self.assertGreater(len(declared), 40)
         self.assertEqual({name for name in declared if not name.lower().startswith("desterlin_")}, set())
 
+    def test_the_words_of_an_answer_are_called_what_they_are(self) -> None:
+        """In the enumerations, in the comments above them and in docs/API.md. A row is never just a row: it is the
+        first one with a finding, or that of the refusal."""
+        text = (ROOT / "include" / "desterlin.h").read_text(encoding="utf-8")
+        page = (ROOT / "docs" / "API.md").read_text(encoding="utf-8")
+        for call, words in ANSWERS.items():
+            enumeration = text.split(f"enum desterlin_{call}_word {{")[1].split("}")[0]
+            named = re.findall(rf"DESTERLIN_{call.upper()}_(\w+) = (\d)", enumeration)
+            self.assertEqual(named, [(word.upper().replace(" ", "_"), str(at)) for at, word in enumerate(words)])
+            told = text.split(f"(DESTERLIN_{call.upper()}_ANSWER octets)")[1].split("*/")[0]
+            self.assertEqual(re.findall(r"^ \*   (\d) ([a-z ]+?)  ", told, re.M), list(zip("01234", words)))
+            row = re.findall(rf"^\| {call} \| {4 * len(words)} octets \| (.*) \|$", page, re.M)
+            self.assertEqual([re.sub(r" \(.*?\)", "", line).split(", ") for line in row], [words])
+
+    def test_what_nobody_would_guess_is_told(self) -> None:
+        told = self.told()
+        self.assertIn("It costs one pass over the listing", told)
+        elsewhere = {code: rule.partner_table for code, rule in RULES.items() if rule.partner_table is not rule.table}
+        self.assertEqual(elsewhere, {162: SETS})
+        self.assertIn("but for 162: its partner is a matrix set row", told)
+
+    @needs_library
+    def test_the_archive_is_for_the_machine_that_is_told(self) -> None:
+        self.assertIn("which `rt staticlib desterlin` proves and writes: it is x86-64 code", self.told())
+        octets = library.archive(may_build=False).read_bytes()
+        objects = [match.start() for match in re.finditer(b"\x7fELF", octets)]
+        x86_64 = 62
+        self.assertEqual({octets[start + 18] for start in objects}, {x86_64})
+
+    def test_the_version_rises_with_what_a_caller_compiles(self) -> None:
+        """A request that changes the header's code raises DESTERLIN_VERSION and adds a line to COMPILED."""
+        text = (ROOT / "include" / "desterlin.h").read_text(encoding="utf-8")
+        code = " ".join(re.sub(r"/\*.*?\*/", " ", text, flags=re.S).split())
+        version = int(re.findall(r"#define DESTERLIN_VERSION (\d+)", code)[0])
+        self.assertEqual({version: hashlib.sha256(code.encode()).hexdigest()[:16]}, {version: COMPILED[version]})
+        self.assertEqual(version, max(COMPILED))
+
+    def told(self) -> str:
+        """The header in one line, without the stars of its comments."""
+        return re.sub(r"\s+(\* )?", " ", (ROOT / "include" / "desterlin.h").read_text(encoding="utf-8"))
+
     def macros(self, source: bytes) -> "set[str]":
         ran = Ran(["cc", "-std=c99", "-dM", "-E", f"-I{ROOT / 'include'}", "-x", "c", "-"], source)
         return {line.split()[1].split("(")[0] for line in ran.out.splitlines()}
 
 
-class Makefile(InRoom):
-    def make(self, *words: str) -> "subprocess.CompletedProcess[str]":
-        env = {name: value for name, value in os.environ.items() if name not in ("CC", "MAKEFLAGS", "MAKELEVEL")}
-        command = ["make", "-s", "-C", str(ROOT / "examples"), *words]
-        return subprocess.run(command, env=env, capture_output=True, text=True, check=False)
+def work_for(tiles: List[int]) -> List[int]:
+    """What the header's DESTERLIN_WORK_FOR says, and in the end DESTERLIN_WORK_FULL."""
+    prints = "".join(f'printf("%zu\\n", DESTERLIN_WORK_FOR({number}));' for number in tiles)
+    full = 'printf("%d\\n", DESTERLIN_WORK_FULL);'
+    source = f'#include <stdio.h>\n#include "desterlin.h"\nint main(void) {{ {prints} {full} return 0; }}\n'
+    BUILT.mkdir(parents=True, exist_ok=True)
+    program = BUILT / "work-for"
+    ran = Ran(["cc", "-std=c99", f"-I{ROOT / 'include'}", "-x", "c", "-", "-o", program], source.encode())
+    assert ran.status == 0, ran.err
+    return [int(line) for line in Ran([program]).out.splitlines()]
 
-    def test_says_what_to_do_without_the_library(self) -> None:
-        ran = self.make(f"LIBRARY={self.room}/none.a", f"BUILT={self.room}")
-        self.assertEqual((ran.returncode, ran.stdout), (2, ""))
-        self.assertIn("The proved library is not built yet.", ran.stderr)
-        self.assertIn("rt staticlib desterlin", ran.stderr)
 
-    @needs_library
-    def test_builds_and_runs_the_viewer(self) -> None:
-        named = {"LIBRARY": os.environ.get("DESTERLIN_LIBRARY"), "CC": os.environ.get("DESTERLIN_CC")}
-        ran = self.make(f"BUILT={self.room}", *(f"{name}={value}" for name, value in named.items() if value))
-        self.assertEqual((ran.returncode, ran.stdout, ran.stderr), (0, MADE_SCREEN, ""))
+def constant(crate: str, pattern: str) -> int:
+    """The one number that a crate has where the pattern says."""
+    sources = sorted((ROOT / "crates" / crate / "src").glob("*.rt"))
+    numbers = re.findall(pattern, "".join(source.read_text(encoding="utf-8") for source in sources), re.M)
+    assert len(numbers) == 1, (crate, pattern, numbers)
+    return int(numbers[0])
+
+
+class Work(unittest.TestCase):
+    """The sizes of the workspace that the header names, by the numbers of the code. Full speed is that of an index with
+    15 heads for 16 rows at the least."""
+
+    first_part = constant("report", r"^(?:pub )?const FIRST_PART: usize = (\d+);$")
+    spare = constant("index", r"^(?:(?:pub )?const SPARE_HEADS: usize =| +let some = rows \+) (\d+);$")
+    tried = sorted({0, 1, 1000, *range(0, TILES.most, 4093), TILES.most - 1, TILES.most})
+
+    def heads_for(self, octets: int, rows: int) -> int:
+        """As crates/index/src/work.rt has it: a word for each row, and the rest for heads, but so many at the most."""
+        return max(0, min(octets // 4 - rows, rows + self.spare))
+
+    def indexes(self, work: int, tiles: int) -> List[Tuple[int, int]]:
+        """The heads and the rows of each index that a report may make: 541 and the survey have all of the work, the
+        other codes two parts of it (judge::prepare and prepare_more)."""
+        first = min(work, self.first_part)
+        whole = [tiles, MATRICES.most, CONTENTS.most]
+        parts = [(first, table.most) for table in (CONTENTS, SETS, MATRICES)]
+        parts += [(work - first, rows) for rows in (tiles, MATRICES.most)]
+        return [(self.heads_for(room, rows), rows) for room, rows in [*((work, rows) for rows in whole), *parts]]
+
+    def test_is_enough_for_full_speed(self) -> None:
+        for tiles, work in zip(self.tried, work_for(self.tried)):
+            with self.subTest(tiles=tiles, work=work):
+                for heads, rows in self.indexes(work, tiles):
+                    self.assertGreaterEqual(16 * heads, 15 * rows)
+
+    def test_is_no_more_than_can_be_used(self) -> None:
+        for tiles, work in zip(self.tried, work_for(self.tried)):
+            most_used = self.first_part + 8 * max(tiles, MATRICES.most) + 4 * self.spare
+            self.assertLessEqual(work, most_used)
+
+    def test_the_full_size_is_that_of_the_most_tiles(self) -> None:
+        *sizes, full = work_for(self.tried)
+        self.assertEqual((sizes[-1], max(sizes), full), (full, full, 2 << 20))
+        self.assertEqual(work_for([2 * TILES.most, -1]), [full, full, full])
+
+    def test_what_a_smaller_one_lacks(self) -> None:
+        """The sizes at which the header says that an index is missing: at so many octets it is, and with one word more
+        it is there."""
+        tiles, matrices = TILES.most, MATRICES.most
+        for octets, rows in [(4 * tiles, tiles), (4 * matrices, matrices)]:
+            self.assertEqual([self.heads_for(octets, rows), self.heads_for(octets + 4, rows)], [0, 1])
+        self.assertEqual(self.first_part, 64 << 10)
+
+    def test_no_page_promises_more(self) -> None:
+        for page in ["include/desterlin.h", "docs/API.md"]:
+            text = (ROOT / page).read_text(encoding="utf-8")
+            self.assertNotRegex(text, r"every\s(\* )?listing\s(\* )?at\s(\* )?full\s(\* )?speed")
 
 
 def sanitizers() -> str:
@@ -168,6 +269,20 @@ class Viewer(InRoom):
         self.assertEqual((ran.status, ran.err), (0, ""))
         self.assertIn("lookup refused: reason 10, table 0, row 0: ", ran.out)
 
+    def test_less_work_memory_than_wanted_is_told(self) -> None:
+        program, scarce = BUILT / "viewer-scarce", "-Dmalloc=scarce_malloc"
+        ran = Ran([
+            TESTS / "cc-sanitized", scarce, "-include", TESTS / "walled.h", TESTS / "walled.c",
+            ROOT / "examples" / "viewer.c", "-o", program,
+        ])
+        self.assertEqual((ran.status, ran.err), (0, ""))
+        listing = SAMPLES / "doubled-address.listing"
+        ran = Ran([program, listing])
+        wanted = work_for([listing.stat().st_size // 32])[0]
+        told = f"{wanted // 2} octets of work memory in place of {wanted}: the same answers, which may take longer\n"
+        self.assertEqual((ran.status, ran.err), (1, told))
+        self.assertEqual(ran.out, Ran([self.program, listing]).out)
+
     def test_wrong_words(self) -> None:
         wrong: "List[List[object]]" = [[], ["a", "b"], [SAMPLES / "good-pack.listing", 0, 0, 5, 4, 0, 0], ["/nowhere"]]
         for words in wrong:
@@ -189,14 +304,14 @@ class Viewer(InRoom):
 
 
 @needs_library
-class Judge(unittest.TestCase):
+class CallLibrary(unittest.TestCase):
     def test_under_the_sanitizers_it_prints_what_the_second_program_does(self) -> None:
         os.environ["ASAN_OPTIONS"] = "detect_leaks=0"
-        ran = Ran([TESTS / "cc-sanitized", ROOT / "tools" / "judge.c", "-o", BUILT / "judge"])
+        ran = Ran([TESTS / "cc-sanitized", ROOT / "tools" / "call-library.c", "-o", BUILT / "call-library"])
         self.assertEqual((ran.status, ran.err), (0, ""))
         listings = [path.read_bytes() for path in sorted(SAMPLES.glob("*.listing"))]
         for listing in [*listings, Ran([SECOND, "full", "pyramids", 262_144]).octets]:
-            ran = Ran([BUILT / "judge"], listing)
+            ran = Ran([BUILT / "call-library"], listing)
             self.assertEqual((ran.status, ran.err), (0, ""))
             self.assertEqual(ran.out, judged_by_second(listing))
 
@@ -208,7 +323,7 @@ class Stack(InRoom):
         compiler = os.environ.get("DESTERLIN_CC") or ROOT / "tools" / "cc-x86-64"
         flags = ["-std=c99", "-pedantic", "-Wall", "-Wextra", "-Werror", "-O1", "-pthread"]
         sources = [TESTS / "stack.c", TESTS / "walled.c"]
-        ran = Ran([compiler, *flags, "-Iinclude", "-Itests/tools", *sources, judge.library(), "-o", BUILT / "stack"])
+        ran = Ran([compiler, *flags, "-Iinclude", "-Itests/tools", *sources, library.archive(), "-o", BUILT / "stack"])
         self.assertEqual((ran.status, ran.err), (0, ""))
         large = self.room / "large.listing"
         large.write_bytes(Ran([SECOND, "full", "pyramids", 262_144]).octets)

@@ -1,4 +1,4 @@
-"""gpkg-check and the judge: the proved library from end to end."""
+"""gpkg-check and call-library.c: the proved library from end to end."""
 
 from __future__ import annotations
 
@@ -15,7 +15,7 @@ from packs import (
 )
 from test_listing import CONTENTS, FARM, PLANTED, planted
 
-from desterlin import judge
+from desterlin import library
 
 GPKG_CHECK = loaded("gpkg-check")
 SAMPLES = ROOT / "samples"
@@ -166,11 +166,11 @@ class Listings(InRoom):
 
 
 @needs_library
-class Judge(InRoom):
-    """tools/judge.c prints what the second program does."""
+class CallLibrary(InRoom):
+    """tools/call-library.c prints what the second program does."""
 
     def same(self, listing: bytes) -> None:
-        ran = Ran([judge.program()], listing)
+        ran = Ran([library.program()], listing)
         self.assertEqual((ran.status, ran.err), (0, ""))
         self.assertEqual(ran.out, judged_by_second(listing))
 

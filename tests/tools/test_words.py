@@ -10,7 +10,7 @@ from typing import List, Tuple
 from packs import DATE, PACKS, ROOT, SECOND, InRoom, Ran, judged_by_second, make_pack
 from test_listing import CONTENTS, EXTENSIONS, FARM, MATRICES, PLANTED, SETS, SRS, Change, planted
 
-from desterlin import judge, picture
+from desterlin import library, picture
 from desterlin.console import Trouble, shown
 from desterlin.listing import TABLES, Listing
 from desterlin.rules import REASONS, RULES, Finding
@@ -18,8 +18,8 @@ from desterlin.words import Known, words
 
 
 def findings_in(listing: bytes) -> List[Finding]:
-    answer = judge.answer(judged_by_second(listing).splitlines())
-    assert not isinstance(answer, judge.Refusal)
+    answer = library.answer(judged_by_second(listing).splitlines())
+    assert not isinstance(answer, library.Refusal)
     return answer
 
 
@@ -79,25 +79,25 @@ class FindingsInWords(InRoom):
         """The second program makes them: odd names, huge numbers, tables that do not fit together."""
         for seed in range(60):
             listing = Ran([SECOND, "make", seed]).octets
-            answer = judge.answer(judged_by_second(listing).splitlines())
-            if not isinstance(answer, judge.Refusal):
+            answer = library.answer(judged_by_second(listing).splitlines())
+            if not isinstance(answer, library.Refusal):
                 with self.subTest(seed=seed):
                     known = Known(Listing(listing))
                     self.assertTrue(all(words(known, finding) for finding in answer))
                     xml.dom.minidom.parseString(picture.drawn("made", Listing(listing), answer))
 
 
-class TheJudgesLines(unittest.TestCase):
+class TheLibrarysLines(unittest.TestCase):
     def test_are_read(self) -> None:
         found = [Finding(111, None, None), Finding(541, 5, 3)]
-        self.assertEqual(judge.answer(["finding 111 - -", "finding 541 5 3", "total 2"]), found)
-        self.assertEqual(judge.answer(["refused 7 5 3"]), judge.Refusal(7, 5, 3))
+        self.assertEqual(library.answer(["finding 111 - -", "finding 541 5 3", "total 2"]), found)
+        self.assertEqual(library.answer(["refused 7 5 3"]), library.Refusal(7, 5, 3))
 
     def test_that_break_off_are_no_judgement(self) -> None:
         broken: "List[List[str]]" = [[], ["finding 541 5 3"], ["finding 541 5 3", "total 2"], ["total 1"]]
         for lines in broken:
-            with self.assertRaisesRegex(Trouble, "the judge broke off"):
-                judge.answer(lines)
+            with self.assertRaisesRegex(Trouble, "the library's answer breaks off"):
+                library.answer(lines)
 
 
 class Texts(unittest.TestCase):

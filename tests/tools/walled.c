@@ -67,6 +67,12 @@ void *walled_malloc(size_t size)
     return walled(size);
 }
 
+void *scarce_malloc(size_t size)
+{
+    /* Not malloc, which may be defined as this. */
+    return size > 65536 ? NULL : calloc(size, 1);
+}
+
 /* What is freed stays mapped: the program ends soon, and a late touch of it is no matter of the wall. */
 void walled_free(void *memory)
 {

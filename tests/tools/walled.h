@@ -32,4 +32,7 @@ void when_found(void (*tell)(void));
 void *walled_malloc(size_t size);
 void walled_free(void *memory);
 
+/* Takes the place of malloc where memory is scarce: NULL for more than 64 KiB at once. */
+void *scarce_malloc(size_t size);
+
 #endif

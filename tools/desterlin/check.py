@@ -5,7 +5,7 @@ from __future__ import annotations
 from bisect import bisect_right
 from typing import Callable, Dict, List, NamedTuple, Optional
 
-from . import geopackage, judge
+from . import geopackage, library
 from .console import Trouble, counted, told
 from .listing import LISTING_MOST, TABLES, Listing, Table
 from .rules import REASONS, Finding
@@ -54,14 +54,14 @@ def check_listing(path: str, say: Callable[[str], None]) -> Judged:
 
 def accepted(path: str, exported: geopackage.Exported, say: Callable[[str], None]) -> Judged:
     say(f"judging {counted(len(exported.octets), 'octet')}")
-    answer = judge.judged(exported.octets)
-    if isinstance(answer, judge.Refusal):
+    answer = library.judged(exported.octets)
+    if isinstance(answer, library.Refusal):
         raise Trouble(f"{path}: {refusal_words(answer)}")
     firsts = {table: [source.first for source in sources] for table, sources in exported.sources.items()}
     return Judged(path, Listing(exported.octets), answer, exported.sources, firsts, exported.notes)
 
 
-def refusal_words(refusal: judge.Refusal) -> str:
+def refusal_words(refusal: library.Refusal) -> str:
     place = ""
     if refusal.table != 0:
         titles = {table.number: table.title for table in TABLES}

@@ -1,13 +1,12 @@
 // The desk program: reads one listing from standard input and prints its findings, each on a line.
 use libc::STDIN_FILENO;
 use libc::STDOUT_FILENO;
+use rules::NONE;
 
 // The most octets of a listing, and the octets of the findings that there is room for: 1,365.
 const MOST: usize = 65536;
 
 const ROOM: usize = 16380;
-
-const NONE: usize = 4294967295;
 
 fn say(text: &[u8]) {
     io::write_all(STDOUT_FILENO, text);

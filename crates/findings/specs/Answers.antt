@@ -13,9 +13,10 @@ use Rattle.listing.specs.declared.Outcome.the-variants as reading
 use Rattle.pack.specs.Rows.{Rows, Content, Tile, Pack, rowsIn}
 use Rattle.pack.specs.Tables.{packOf}
 use Rattle.rules.specs.Judgments.{none, firstRow}
+use Rattle.rules.specs.Codes.{tableOf}
 use Rattle.rules.specs.Contents.{ofType}
 use Rattle.rules.specs.Tiles.{atAddress}
-use Rattle.findings.specs.Findings.{Finding, ofCode, findings, tableOf}
+use Rattle.findings.specs.Findings.{Finding, ofCode, findings}
 use Rattle.findings.specs.declared.Ruling.{Ruling}
 use Rattle.findings.specs.declared.Ruling.the-variants as ruling
 use Rattle.findings.specs.declared.Located.{Located}
@@ -70,12 +71,12 @@ tileAt ts x z c r = locatedRow (firstRow (atAddress x z c r) ts) (ts .count)
 unfoldable pub canLook : Rows Content → ℕ → Bool
 canLook cs k = ltb k (cs .count) && ofType tiles (cs .row k)
 
-unfoldable pub lookedUp : Rows Content → Rows Tile → ℕ → ℤ → ℤ → ℤ → Located
-lookedUp cs ts k z c r = cond (canLook cs k) (tileAt ts (cs .row k .name) z c r) (look.Refused 10 0 0)
+unfoldable pub lookedUp : Pack → ℕ → ℤ → ℤ → ℤ → Located
+lookedUp p k z c r = cond (canLook (p .contents) k) (tileAt (p .tiles) (p .contents .row k .name) z c r) (look.Refused 10 0 0)
 
 abbrev pub locatedBy : Outcome → Located → Located
 locatedBy (reading.Accepted l) a = a
 locatedBy (reading.Refused n t r) a = look.Refused n t r
 
 unfoldable pub lookupOf : List ℕ → ℕ → ℤ → ℤ → ℤ → Located
-lookupOf s k z c r = locatedBy (outcome s) (lookedUp (packOf s .contents) (packOf s .tiles) k z c r)
+lookupOf s k z c r = locatedBy (outcome s) (lookedUp (packOf s) k z c r)

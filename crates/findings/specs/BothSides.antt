@@ -8,6 +8,7 @@ use Prim.Native.String.{String}
 use lib.IntN.{ℤ, pos, negsuc}
 use lib.Ieee.{Float, fin, binary64, lt, sub, mul, ofInt, ofBits, toBits}
 use Rattle.octets.specs.Octets.{le32, le64, part}
+use Rattle.octets.specs.Slices.{nth}
 use Rattle.octets.specs.Search.{first, any}
 use Rattle.octets.specs.Texts.{Null, same, textAt}
 use Rattle.doubles.specs.Doubles.{positive, near, measures}
@@ -16,7 +17,7 @@ use Rattle.spelling.specs.Dates.{form, fits, misfit, twoDigits, fourDigits, lea
 use Rattle.spelling.specs.Characters.{between}
 use Rattle.spelling.specs.Quoted.{quoted}
 use Rattle.spelling.specs.ExtensionNames.{alphanumeric, nameOctet, underscoreAt, strangeAt, inside, isExtensionName}
-use Rattle.listing.specs.Listing.{row, most, version, total, count, offset, start, table, rows}
+use Rattle.listing.specs.Listing.{row, most, version, total, count, offset, start, table, tablesOf, rows}
 use Rattle.listing.specs.Refusals.{over, moved, textBase, textCount, nullCount, badText, badRow, lowestBadRow, badTable, badContents, headerReasons, rowReasons, outcome, numberOf, tableOf, rowOf}
 use Rattle.pack.specs.Rows.{Rows, Content, MatrixSet, Matrix, Tile, Extension, rowsIn}
 use Rattle.pack.specs.Tables.{packOf}
@@ -107,5 +108,5 @@ lines =
 
 -- the definitions say what document 01 says, on every line
 pub both-sides : map (λ l. l .0) lines ≡ map (λ l. l .1) lines
-unfolding headerAlone quoted le32 le64 part first any same textAt positive near measures form fits misfit twoDigits fourDigits leap monthLengths commonLength leapFebruary monthLength inCalendar onClock isDate between alphanumeric nameOctet underscoreAt strangeAt inside isExtensionName row most version total count offset start table rows over moved textBase textCount nullCount badText badRow lowestBadRow badTable badContents headerReasons rowReasons outcome packOf partner hasId lacksId ofType isMap none171 of151 setNamed matrixNamed atLevel fits451 measured of451 offGrid off561 placed of561 of621 codeAt tableAt judged judgedNone atRow atNone rowsIn ofCode ofPlace findings reported lt sub mul ofInt ofBits toBits
+unfolding headerAlone quoted le32 le64 part first any same textAt positive near measures form fits misfit twoDigits fourDigits leap monthLengths commonLength leapFebruary monthLength inCalendar onClock isDate between alphanumeric nameOctet underscoreAt strangeAt inside isExtensionName row most version total count offset start table tablesOf nth rows over moved textBase textCount nullCount badText badRow lowestBadRow badTable badContents headerReasons rowReasons outcome packOf partner hasId lacksId ofType isMap none171 of151 setNamed matrixNamed atLevel fits451 measured of451 offGrid off561 placed of561 of621 codeAt tableAt judged judgedNone atRow atNone rowsIn ofCode ofPlace findings reported lt sub mul ofInt ofBits toBits
 both-sides = refl

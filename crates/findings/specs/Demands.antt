@@ -8,9 +8,9 @@ use Rattle.listing.specs.Refusals.{outcome, isAccepted}
 use Rattle.pack.specs.Rows.{Pack, rowsIn}
 use Rattle.pack.specs.Tables.{packOf}
 use Rattle.rules.specs.Judgments.{none}
-use Rattle.rules.specs.Codes.{judged, judgedNone}
+use Rattle.rules.specs.Codes.{tableOf, judged, judgedNone}
 use Rattle.rules.specs.declared.Judgment.the-variants.{Hit}
-use Rattle.findings.specs.Findings.{Finding, tableOf}
+use Rattle.findings.specs.Findings.{Finding}
 use Rattle.findings.specs.Answers.{alwaysTestable}
 
 -- ---- a finding stands in a list; each finding of a list stands in it once

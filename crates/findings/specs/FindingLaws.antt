@@ -16,10 +16,10 @@ use Rattle.octets.specs.SearchLaws.{first-lowest}
 use Rattle.octets.specs.TableLaws.{at}
 use Rattle.pack.specs.Rows.{Pack, rowsIn}
 use Rattle.rules.specs.Judgments.{none}
-use Rattle.rules.specs.Codes.{codes, tables, codeAt, tableAt, judged, judgedNone}
+use Rattle.rules.specs.Codes.{codes, codeCount, codeAt, tableAt, judged, judgedNone}
 use Rattle.rules.specs.declared.Judgment.{Judgment}
 use Rattle.rules.specs.declared.Judgment.the-variants.{Clean, Hit}
-use Rattle.findings.specs.Findings.{Finding, found, atRow, atNone, ofCode, ofPlace, findings, seek, tableOf, only, Every, Before, Ordered}
+use Rattle.findings.specs.Findings.{Finding, found, atRow, atNone, ofCode, ofPlace, findings, only, Every, Before, Ordered}
 
 -- ---- what holds of every finding
 module _ (P : Finding → Type 0) where
@@ -105,15 +105,15 @@ lower c j = not (ltb (getD codes j 0) c)
 ascends : ℕ → ℕ → Bool
 ascends k c = eqb (first (lower c) k) k
 
-pub ascending : (j k : ℕ) → j < k → k < 36 → codeAt j < codeAt k
+pub ascending : (j k : ℕ) → j < k → k < codeCount → codeAt j < codeAt k
 unfolding ascends lower first codeAt
 ascending j k l m =
     ltb-true _ _ (not-false _ (first-lowest (lower (getD codes k 0)) k .below j (subst (λ (n : ℕ). j < n) (sym (eqb→eq _ _ (at ascends codes tt k m))) l)))
 
-pub only-place : (p : Pack) (k : ℕ) → k < 36 → only (codeAt k) (findings p) ≡ ofPlace p k
+pub only-place : (p : Pack) (k : ℕ) → k < codeCount → only (codeAt k) (findings p) ≡ ofPlace p k
 unfolding findings ofPlace
 only-place p k h =
-    one (codeAt k) (ofPlace p) k 36
+    one (codeAt k) (ofPlace p) k codeCount
     (λ j l d. code-other p (codeAt k) (codeAt j) (tableAt j) (λ e. ⊎-elim (λ (m : j < k). omega (arith, ascending j k m h)) (λ (m : k < j). omega (arith, ascending k j m l)) (apart j k d)))
     (code-same p (codeAt k) (tableAt k))
     h

@@ -5,11 +5,10 @@ use mathlib.Core.Logic.{_⊎_}
 use mathlib.Core.List.{List, [], _∷_, _++_}
 use mathlib.Core.Bool.{Bool, cond}
 use lib.Dec.{eqb}
-use lib.ListN.{length, getD, drop}
 use Rattle.octets.specs.Gather.{gather}
 use Rattle.pack.specs.Rows.{Pack, rowsIn}
 use Rattle.rules.specs.Judgments.{none}
-use Rattle.rules.specs.Codes.{codes, tables, codeAt, tableAt, judged, judgedNone}
+use Rattle.rules.specs.Codes.{codeCount, codeAt, tableAt, judged, judgedNone}
 use Rattle.rules.specs.declared.Judgment.{Judgment}
 use Rattle.rules.specs.declared.Judgment.the-variants.{Clean, Hit}
 
@@ -41,15 +40,7 @@ unfoldable pub ofPlace : Pack → ℕ → List Finding
 ofPlace p k = ofCode p (codeAt k) (tableAt k)
 
 unfoldable pub findings : Pack → List Finding
-findings p = gather 36 (ofPlace p)
-
--- the table that a code belongs to; 0 where it is none of the 36
-abbrev pub seek : List ℕ → List ℕ → ℕ → ℕ
-seek [] ts c = 0
-seek (k ∷ ks) ts c = cond (eqb c k) (getD ts 0 0) (seek ks (drop 1 ts) c)
-
-unfoldable pub tableOf : ℕ → ℕ
-tableOf c = seek codes tables c
+findings p = gather codeCount (ofPlace p)
 
 -- those of a list that have a code
 abbrev pub only : ℕ → List Finding → List Finding

@@ -22,7 +22,7 @@ use Rattle.pack.specs.Rows.{Rows, Tile, Pack, rowsIn}
 use Rattle.pack.specs.Tables.{packOf}
 use Rattle.rules.specs.Judgments.{partner, firstRow}
 use Rattle.rules.specs.Tiles.{atAddress, of541}
-use Rattle.rules.specs.Codes.{codeAt, tableAt, judged, judgedNone}
+use Rattle.rules.specs.Codes.{codeCount, codeAt, tableAt, judged, judgedNone}
 use Rattle.rules.specs.declared.Judgment.{Judgment}
 use Rattle.rules.specs.declared.Judgment.the-variants.{Clean, Hit}
 use Rattle.findings.specs.Findings.{Finding, found, atRow, atNone, ofCode, ofPlace, findings, Every}
@@ -73,7 +73,7 @@ module _ (p : Pack) (x : List ℕ) (z c r : ℤ) (clear : Every (Undoubled p x z
   at-row j l =
       every-part (Undoubled p x z c r) (λ i. found 541 i (judged p 541 i)) (p .tiles .count) j l
       (every-left (Undoubled p x z c r) (gather (p .tiles .count) (λ i. found 541 i (judged p 541 i))) _
-      (every-part (Undoubled p x z c r) (ofPlace p) 36 28 (omega arith) clear))
+      (every-part (Undoubled p x z c r) (ofPlace p) codeCount 28 (omega arith) clear))
 
   refuted : (j : ℕ) (v : Judgment) → v ≡ Hit (first (λ m. atAddress (p .tiles .row j .name) (p .tiles .row j .zoom) (p .tiles .row j .column) (p .tiles .row j .row) (p .tiles .row m)) j)
       → here j ≡ true → Every (Undoubled p x z c r) (found 541 j v) → ⊥

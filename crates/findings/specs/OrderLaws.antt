@@ -8,7 +8,7 @@ use native.Mathlib.Omega.{arith}
 use Rattle.octets.specs.Gather.{gather}
 use Rattle.pack.specs.Rows.{Pack, rowsIn}
 use Rattle.rules.specs.Judgments.{none}
-use Rattle.rules.specs.Codes.{codeAt, tableAt, judged, judgedNone}
+use Rattle.rules.specs.Codes.{codeCount, codeAt, tableAt, judged, judgedNone}
 use Rattle.rules.specs.declared.Judgment.{Judgment}
 use Rattle.rules.specs.declared.Judgment.the-variants.{Clean, Hit}
 use Rattle.findings.specs.Findings.{Finding, found, atRow, atNone, ofCode, ofPlace, findings, Every, Before, Ordered}
@@ -75,13 +75,13 @@ code-coded p c t =
 
 module _ (p : Pack) (numbered : Numbered p) where
   -- of the codes at places below k: of a lower code than that at k
-  places-below : (k : ℕ) → k < 36 → Every (λ f. f .code < codeAt k) (gather k (ofPlace p))
+  places-below : (k : ℕ) → k < codeCount → Every (λ f. f .code < codeAt k) (gather k (ofPlace p))
   unfolding ofPlace
   places-below k h =
       every-gather (λ f. f .code < codeAt k) (λ j. ofCode p (codeAt j) (tableAt j)) k
       (λ j l. every-map (Coded (codeAt j)) (λ f. f .code < codeAt k) (λ f e. subst (λ (m : ℕ). m < codeAt k) (sym e) (ascending j k l h)) (ofCode p (codeAt j) (tableAt j)) (code-coded p (codeAt j) (tableAt j)))
 
-  places-ordered : (k : ℕ) → k ≤ 36 → Ordered (gather k (ofPlace p))
+  places-ordered : (k : ℕ) → k ≤ codeCount → Ordered (gather k (ofPlace p))
   unfolding ofPlace
   places-ordered zero h = tt
   places-ordered (suc k) h =
@@ -92,4 +92,4 @@ module _ (p : Pack) (numbered : Numbered p) where
 
   pub findings-ordered : Ordered (findings p)
   unfolding findings
-  findings-ordered = places-ordered 36 (omega arith)
+  findings-ordered = places-ordered codeCount (omega arith)

@@ -18,10 +18,10 @@ use Rattle.rules.specs.Sets.{of391, of392, of411}
 use Rattle.rules.specs.Matrices.{measured, of351, of431, of432, of451, of452, of461, of471, of481, of491, of501, of511, of521, of531}
 use Rattle.rules.specs.Tiles.{placed, of341, of441, of541, of551, of561, of571}
 use Rattle.rules.specs.Extensions.{lacks601, of601, of621, of622, of641}
-use Rattle.rules.specs.Codes.{judged, judgedNone}
+use Rattle.rules.specs.Codes.{tableOf, judged, judgedNone}
 use Rattle.rules.specs.declared.Judgment.{Judgment}
 use Rattle.rules.specs.declared.Judgment.the-variants.{Clean, Hit}
-use Rattle.findings.specs.Findings.{Finding, tableOf}
+use Rattle.findings.specs.Findings.{Finding}
 use Rattle.findings.specs.Demands.{Due, Partner}
 
 module _ (p : Pack) where

@@ -5,8 +5,7 @@ use mathlib.Core.Bool.{Bool, true, false, false≢true}
 use mathlib.Core.List.{List, [], _++_}
 use mathlib.Core.Logic.{inl, inr, _↔_, ⊎-elim}
 use native.Mathlib.Omega.{arith}
-use lib.Dec.{eqb, ltb, eqb→eq, ltb→lt}
-use lib.ListN.{getD}
+use lib.Dec.{ltb, ltb→lt}
 use Rattle.octets.specs.Gather.{gather}
 use Rattle.octets.specs.TableLaws.{at}
 use Rattle.listing.specs.Refusals.{outcome, isAccepted}
@@ -17,10 +16,11 @@ use Rattle.pack.specs.Rows.{Pack, rowsIn}
 use Rattle.pack.specs.Tables.{packOf}
 use Rattle.pack.specs.PackLaws.{rows-numbered}
 use Rattle.rules.specs.Judgments.{none}
-use Rattle.rules.specs.Codes.{codes, tables, codeAt, tableAt, judged, judgedNone}
+use Rattle.rules.specs.Codes.{tables, codeCount, codeAt, tableAt, tableOf, judged, judgedNone}
+use Rattle.rules.specs.CodeLaws.{place-table}
 use Rattle.rules.specs.declared.Judgment.{Judgment}
 use Rattle.rules.specs.declared.Judgment.the-variants.{Hit}
-use Rattle.findings.specs.Findings.{Finding, found, atRow, atNone, ofCode, ofPlace, findings, seek, tableOf, Ordered}
+use Rattle.findings.specs.Findings.{Finding, found, atRow, atNone, ofCode, ofPlace, findings, Ordered}
 use Rattle.findings.specs.Answers.{findingsBy, reported}
 use Rattle.findings.specs.Demands.{Stands, Once, Listed, Due, Asked}
 use Rattle.findings.specs.OrderLaws.{findings-ordered}
@@ -34,39 +34,32 @@ found-stands f v e = subst (λ (w : Judgment). Stands f (found (f .code) (f .row
 found-only : (f : Finding) (c i : ℕ) (v : Judgment) → Stands f (found c i v) → (f .code ≡ c) × (f .row ≡ i) × (v ≡ Hit (f .partner))
 found-only f c i (Hit j) (inl e) = (ap (λ (g : Finding). g .code) e, ap (λ (g : Finding). g .row) e, sym (ap (λ (g : Finding). Hit (g .partner)) e))
 
--- ---- the codes at the 36 places are listed, with their tables: one computed test
-ofPlaces : ℕ → ℕ → Bool
-ofPlaces k c = eqb (seek codes tables c) (getD tables k 0)
-
-pub table-of-place : (k : ℕ) → k < 36 → tableOf (codeAt k) ≡ tableAt k
-unfolding ofPlaces tableOf codeAt tableAt
-table-of-place k h = eqb→eq _ _ (at ofPlaces codes tt k h)
-
+-- ---- the codes at the 36 places are listed: their tables are some, by one computed test
 someTable : ℕ → ℕ → Bool
 someTable k t = ltb 0 t
 
-pub place-listed : (k : ℕ) → k < 36 → Listed (codeAt k)
+pub place-listed : (k : ℕ) → k < codeCount → Listed (codeAt k)
 unfolding someTable tableAt
-place-listed k h e = omega (arith, table-of-place k h, ltb→lt 0 (tableAt k) (at someTable tables tt k h))
+place-listed k h e = omega (arith, place-table k h, ltb→lt 0 (tableAt k) (at someTable tables tt k h))
 
 -- a code is one of the 36 exactly where it has a place among them
-pub listed-exactly : (c : ℕ) → Listed c ↔ ((k : ℕ) × (k < 36) × (codeAt k ≡ c))
+pub listed-exactly : (c : ℕ) → Listed c ↔ ((k : ℕ) × (k < codeCount) × (codeAt k ≡ c))
 unfolding codeAt
 listed-exactly c =
     (λ n. let h = listed-place c n in (h .place, h .within, h .code), λ h. subst Listed (h .2) (place-listed (h .0) (h .1)))
 
 -- ---- all that a pack's rules ask for, and no other
 module _ (p : Pack) (f : Finding) where
-  due-row : (k i : ℕ) → k < 36 → i < rowsIn p (tableAt k) → (f .code ≡ codeAt k) × (f .row ≡ i) × (judged p (codeAt k) i ≡ Hit (f .partner)) → Due p f
+  due-row : (k i : ℕ) → k < codeCount → i < rowsIn p (tableAt k) → (f .code ≡ codeAt k) × (f .row ≡ i) × (judged p (codeAt k) i ≡ Hit (f .partner)) → Due p f
   due-row k i l m q = record {
     listed = rw (q .0) (place-listed k l);
-    says = inl (rw (q .0, q .1, table-of-place k l) m, rw (q .0, q .1) (q .2));
+    says = inl (rw (q .0, q .1, place-table k l) m, rw (q .0, q .1) (q .2));
   }
 
-  due-none : (k : ℕ) → k < 36 → (f .code ≡ codeAt k) × (f .row ≡ none) × (judgedNone p (codeAt k) ≡ Hit (f .partner)) → Due p f
+  due-none : (k : ℕ) → k < codeCount → (f .code ≡ codeAt k) × (f .row ≡ none) × (judgedNone p (codeAt k) ≡ Hit (f .partner)) → Due p f
   due-none k l q = record { listed = rw (q .0) (place-listed k l); says = inr (q .1, rw (q .0) (q .2)) }
 
-  due-place : (k : ℕ) → k < 36 → Stands f (ofPlace p k) → Due p f
+  due-place : (k : ℕ) → k < codeCount → Stands f (ofPlace p k) → Due p f
   unfolding ofPlace ofCode atRow atNone
   due-place k l h = ⊎-elim row without (stands-either f (gather (rowsIn p (tableAt k)) (atRow p (codeAt k))) (atNone p (codeAt k)) h)
     where
@@ -96,10 +89,10 @@ module _ (p : Pack) (f : Finding) where
   pub findings-exactly : Stands f (findings p) ↔ Due p f
   unfolding findings ofPlace codeAt tableAt
   findings-exactly = (
-    λ h. let q = stands-some f (ofPlace p) 36 h in due-place (q .0) (q .1) (q .2),
+    λ h. let q = stands-some f (ofPlace p) codeCount h in due-place (q .0) (q .1) (q .2),
     λ d.
         let h = listed-place (f .code) (d .listed) in
-        stands-gathered f (ofPlace p) 36 (h .place) (h .within) (rw (h .code, h .table) (due-code d)),
+        stands-gathered f (ofPlace p) codeCount (h .place) (h .within) (rw (h .code, h .table) (due-code d)),
   )
 
 -- ---- the report of an octet string

@@ -17,10 +17,10 @@ use Rattle.pack.specs.Rows.{Pack, rowsIn}
 use Rattle.pack.specs.Tables.{packOf}
 use Rattle.rules.specs.References.{lacksId}
 use Rattle.rules.specs.Contents.{none171}
-use Rattle.rules.specs.Codes.{judgedNone}
+use Rattle.rules.specs.Codes.{tableOf, judgedNone}
 use Rattle.rules.specs.declared.Judgment.{Judgment}
 use Rattle.rules.specs.declared.Judgment.the-variants.{Clean}
-use Rattle.findings.specs.Findings.{Finding, atNone, ofCode, findings, tableOf, only, Ordered}
+use Rattle.findings.specs.Findings.{Finding, atNone, ofCode, findings, only, Ordered}
 use Rattle.findings.specs.Answers.{reported, failOr, alwaysTestable, withoutFinding, ruled, verdictOf}
 use Rattle.findings.specs.Words.{rulingWords}
 use Rattle.findings.specs.Demands.{Stands, Listed, Asked, LowestRow, NoFinding, Testable}

@@ -8,8 +8,8 @@ use lib.Dec.{eqb}
 use lib.ListN.{getD, length, drop}
 use borrow.Author.Tests.{eqb-true}
 use Rattle.pack.specs.Rows.{Pack, rowsIn}
-use Rattle.rules.specs.Codes.{codes, tables, codeAt, tableAt}
-use Rattle.findings.specs.Findings.{Finding, ofCode, ofPlace, findings, seek, tableOf, only}
+use Rattle.rules.specs.Codes.{codes, tables, codeAt, tableAt, seek, tableOf}
+use Rattle.findings.specs.Findings.{Finding, ofCode, ofPlace, findings, only}
 use Rattle.findings.specs.FindingLaws.{only-place}
 use Rattle.findings.specs.Answers.{failOr, alwaysTestable, withoutFinding, ruled}
 use Rattle.findings.specs.declared.Ruling.{Ruling}

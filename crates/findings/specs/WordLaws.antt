@@ -19,9 +19,9 @@ use Rattle.pack.specs.Rows.{Pack, rowsIn}
 use Rattle.pack.specs.Tables.{packOf}
 use Rattle.pack.specs.PackLaws.{rows-most, rows-numbered}
 use Rattle.rules.specs.Judgments.{none}
-use Rattle.rules.specs.Codes.{codes, codeAt, judged, judgedNone}
+use Rattle.rules.specs.Codes.{codes, codeCount, codeAt, tableOf, judged, judgedNone}
 use Rattle.rules.specs.declared.Judgment.the-variants.{Hit}
-use Rattle.findings.specs.Findings.{Finding, findings, tableOf, Every}
+use Rattle.findings.specs.Findings.{Finding, findings, Every}
 use Rattle.findings.specs.Answers.{reported, ruled, verdictOf, tileAt, lookupOf}
 use Rattle.findings.specs.Words.{octetsOf, wordsOf, findingOctets, room, writtenOf, bufferOf, reportWords, rulingWords, locatedWords}
 use Rattle.findings.specs.Demands.{Listed, Due, Asked, Partner, Fits, AllFit}
@@ -43,7 +43,7 @@ use Rattle.findings.specs.declared.Located.the-variants as look
 small : ℕ → ℕ → Bool
 small k c = ltb c 4294967296
 
-code-fits : (k : ℕ) → k < 36 → Fits (codeAt k)
+code-fits : (k : ℕ) → k < codeCount → Fits (codeAt k)
 unfolding small codeAt
 code-fits k h = ltb→lt _ _ (at small codes tt k h)
 
@@ -76,7 +76,7 @@ module _ (s : List ℕ) where
   total-fits = by (isAccepted (outcome s)) refl
     where
       by : (b : Bool) → isAccepted (outcome s) ≡ b → Fits (length (reported s))
-      by true a = rw (reported-judged s a) (omega (arith, places-length (packOf s) 262144 36 (rows-most s a)))
+      by true a = rw (reported-judged s a) (omega (arith, places-length (packOf s) 262144 codeCount (rows-most s a)))
       by false a = rw (reported-none s a) (omega arith)
 
   -- ---- the words of the three answers

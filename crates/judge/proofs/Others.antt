@@ -1,20 +1,17 @@
 -- A number that is no code: the last arm of a match on codes.
 use Prim.Native.Nat.{ℕ}
-use mathlib.Core.Path.{_≡_, refl}
-use mathlib.Core.Bool.{cond}
+use mathlib.Core.Path.{_≡_, refl, ap, _∙_, subst}
+use mathlib.Core.Bool.{Bool, true, cond, _&&_, and-eq-true-iff}
 use mathlib.Core.List.{List, [], _∷_}
-use borrow.Author.Tests.{ne-eqb}
-use lib.Dec.{eqb}
+use native.Mathlib.Omega.{arith}
+use borrow.Author.Tests.{ne-eqb, ltb-true}
+use lib.Dec.{eqb, ltb}
 use Rattle.pack.specs.Rows.{Pack}
-use Rattle.rules.specs.Codes.{judged, judgedNone}
+use Rattle.rules.specs.Codes.{codes, tables, tableOf, judged, judgedNone}
+use Rattle.rules.specs.CodeLaws.{Other, among, none-among, covers, not-of-table}
 use Rattle.rules.specs.declared.Judgment.the-variants.{Clean}
 use Rattle.judge.specs.declared.Plan.the-variants.{Plain}
 use Rattle.judge.specs.Plans.{planOf}
-
--- it is none of the arms, the last arm first
-abbrev pub Other : ℕ → List ℕ → Type 0
-Other code [] = Unit {0}
-Other code (c ∷ cs) = Other code cs × (code ≡ c → ⊥)
 
 -- the arms, each tried before those that stand before it in the list
 abbrev arms : {A : Type 0} → ℕ → List ℕ → (ℕ → A) → A → A
@@ -25,13 +22,51 @@ past : {A : Type 0} (code : ℕ) (cs : List ℕ) (f : ℕ → A) (v u : A) → O
 past code [] f v u r e = e
 past code (c ∷ cs) f v u r e = past code cs f v (cond (eqb code c) (f c) u) (r .0) (simp (ne-eqb code c (r .1)) e)
 
-abbrev pub rowCodes : List ℕ
+-- ---- the judge of a table: a code of the table is one of its arms
+pub no-arm : (t code : ℕ) (cs : List ℕ) → ltb 0 t ≡ true → covers t cs codes tables ≡ true → tableOf code ≡ t → Other code cs → ⊥
+no-arm t code cs n v e o = not-of-table t code (λ z. omega (arith, ltb-true 0 t n)) cs o v e
+
+abbrev pub referenceCodes : List ℕ
+referenceCodes = 113 ∷ 112 ∷ 111 ∷ 101 ∷ []
+
+abbrev pub contentsCodes : List ℕ
+contentsCodes = 401 ∷ 171 ∷ 162 ∷ 161 ∷ 151 ∷ 131 ∷ []
+
+abbrev pub setCodes : List ℕ
+setCodes = 411 ∷ 392 ∷ 391 ∷ []
+
+abbrev pub matrixCodes : List ℕ
+matrixCodes = 531 ∷ 521 ∷ 511 ∷ 501 ∷ 491 ∷ 481 ∷ 471 ∷ 461 ∷ 452 ∷ 451 ∷ 432 ∷ 431 ∷ 351 ∷ []
+
+abbrev pub tileCodes : List ℕ
+tileCodes = 571 ∷ 561 ∷ 551 ∷ 541 ∷ 441 ∷ 341 ∷ []
+
+abbrev pub extensionCodes : List ℕ
+extensionCodes = 641 ∷ 622 ∷ 621 ∷ 601 ∷ []
+
+-- ---- the dispatch by table: a number that is no table's has no code
+abbrev rowCodes : List ℕ
 rowCodes = 641 ∷ 622 ∷ 621 ∷ 601 ∷ 571 ∷ 561 ∷ 551 ∷ 541 ∷ 531 ∷ 521 ∷ 511 ∷ 501 ∷ 491 ∷ 481 ∷ 471 ∷ 461 ∷ 452 ∷ 451 ∷ 441 ∷ 432 ∷ 431 ∷ 411 ∷ 401 ∷ 392 ∷ 391 ∷ 351 ∷ 341 ∷ 162 ∷ 161 ∷ 151 ∷ 131 ∷ 113 ∷ 112 ∷ 111 ∷ 101 ∷ []
 
-pub no-code : (p : Pack) (code i : ℕ) → Other code rowCodes → Clean ≡ judged p code i
-unfolding judged
-no-code p code i r = past code rowCodes (λ c. judged p c i) Clean Clean r refl
+abbrev tableNumbers : List ℕ
+tableNumbers = 6 ∷ 5 ∷ 4 ∷ 3 ∷ 2 ∷ 1 ∷ []
 
+abbrev allTabled : List ℕ → Bool
+allTabled [] = true
+allTabled (c ∷ cs) = among (tableOf c) tableNumbers && allTabled cs
+
+no-table-code : (code : ℕ) (cs : List ℕ) → allTabled cs ≡ true → Other (tableOf code) tableNumbers → Other code cs
+no-table-code code [] v o = tt
+no-table-code code (c ∷ cs) v o =
+    let h = and-eq-true-iff (among (tableOf c) tableNumbers) (allTabled cs) .0 v in
+    (no-table-code code cs (h .1) o, λ e. none-among (tableOf code) tableNumbers o (ap (λ (x : ℕ). among (tableOf x) tableNumbers) e ∙ h .0))
+
+pub no-table : (p : Pack) (code t i : ℕ) → t ≡ tableOf code → Other t tableNumbers → Clean ≡ judged p code i
+unfolding judged tableOf
+no-table p code t i e o =
+    past code rowCodes (λ c. judged p c i) Clean Clean (no-table-code code rowCodes refl (subst (λ (x : ℕ). Other x tableNumbers) e o)) refl
+
+-- ---- other matches on codes
 abbrev pub noneCodes : List ℕ
 noneCodes = 171 ∷ 113 ∷ 112 ∷ 111 ∷ []
 

@@ -1,9 +1,10 @@
--- Which index a code goes by: its plan. The lent octets are two parts, and what each holds is laid down by the plan.
+-- Which index a code goes by: its plan. The lent octets are two parts; what each holds of the tables is laid down by the plan.
 use Prim.Native.Nat.{ℕ, _/_}
 use mathlib.Core.List.{List}
 use mathlib.Core.Bool.{cond}
 use lib.Dec.{eqb}
 use lib.ListN.{length}
+use Rattle.octets.specs.Slices.{nth}
 use Rattle.index.specs.declared.Kind.the-variants.{TileName, Level, MatrixName, TilesName, SetName}
 use Rattle.index.specs.Keys.{Indexes, Shelves}
 use Rattle.judge.specs.declared.Plan.{Plan}
@@ -26,22 +27,22 @@ planOf code =
     (cond (eqb code 561) Levels
     (cond (eqb code 571) Levels Plain)))))))))))))
 
--- what the first part w, of m heads, holds
-abbrev pub First : Plan → List ℕ → List ℕ → List ℕ → List ℕ → List ℕ → ℕ → Type 0
-First Plain contents sets matrices names w m = Unit {0}
-First Names contents sets matrices names w m = Indexes TilesName contents names w m (length contents / 40)
-First Sets contents sets matrices names w m = Indexes SetName sets names w m (length sets / 48)
-First Levels contents sets matrices names w m = Indexes Level matrices names w m (length matrices / 64)
-First Steps contents sets matrices names w m = Shelves Level matrices names w m (length matrices / 64)
-First Sizes contents sets matrices names w m = Shelves MatrixName matrices names w m (length matrices / 64)
-First Ranges contents sets matrices names w m = Indexes Level matrices names w m (length matrices / 64)
+-- what the first part w holds of the tables, with so many heads
+abbrev pub Prepared : Plan → List (List ℕ) → List ℕ → ℕ → Type 0
+Prepared Plain ts w heads = Unit {0}
+Prepared Names ts w heads = Indexes TilesName (nth ts 1) (nth ts 6) w heads (length (nth ts 1) / 40)
+Prepared Sets ts w heads = Indexes SetName (nth ts 2) (nth ts 6) w heads (length (nth ts 2) / 48)
+Prepared Levels ts w heads = Indexes Level (nth ts 3) (nth ts 6) w heads (length (nth ts 3) / 64)
+Prepared Steps ts w heads = Shelves Level (nth ts 3) (nth ts 6) w heads (length (nth ts 3) / 64)
+Prepared Sizes ts w heads = Shelves MatrixName (nth ts 3) (nth ts 6) w heads (length (nth ts 3) / 64)
+Prepared Ranges ts w heads = Indexes Level (nth ts 3) (nth ts 6) w heads (length (nth ts 3) / 64)
 
--- what the second part, of l heads, holds
-abbrev pub Second : Plan → List ℕ → List ℕ → List ℕ → List ℕ → ℕ → Type 0
-Second Plain matrices tiles names w l = Unit {0}
-Second Names matrices tiles names w l = Unit {0}
-Second Sets matrices tiles names w l = Unit {0}
-Second Levels matrices tiles names w l = Unit {0}
-Second Steps matrices tiles names w l = Indexes TileName tiles names w l (length tiles / 32)
-Second Sizes matrices tiles names w l = Unit {0}
-Second Ranges matrices tiles names w l = Shelves MatrixName matrices names w l (length matrices / 64)
+-- what the second part holds
+abbrev pub PreparedMore : Plan → List (List ℕ) → List ℕ → ℕ → Type 0
+PreparedMore Plain ts w heads = Unit {0}
+PreparedMore Names ts w heads = Unit {0}
+PreparedMore Sets ts w heads = Unit {0}
+PreparedMore Levels ts w heads = Unit {0}
+PreparedMore Steps ts w heads = Indexes TileName (nth ts 4) (nth ts 6) w heads (length (nth ts 4) / 32)
+PreparedMore Sizes ts w heads = Unit {0}
+PreparedMore Ranges ts w heads = Shelves MatrixName (nth ts 3) (nth ts 6) w heads (length (nth ts 3) / 64)

@@ -1,23 +1,32 @@
 // The rules on contents: 131, 151, 161, 162, 171, 401; and tiles names: 341, 391, 431.
 ghost use mathlib.Core.Path.{_≡_};
+ghost use mathlib.Core.List.{map};
 ghost use mathlib.Core.Bool.{not};
 ghost use Prim.Native.Nat.{_/_};
 ghost use lib.ListN.{length};
 ghost use Rattle.octets.specs.Search.{first};
 ghost use Rattle.octets.specs.Texts.{spell};
-ghost use Rattle.index.specs.declared.Kind.the-variants.{TilesName, SetName};
-ghost use Rattle.index.specs.Keys.{Indexes};
-ghost use Rattle.pack.specs.Tables.{contentOf, contentsOf, referencesOf, setsOf};
+ghost use Rattle.pack.specs.Tables.{contentOf, contentsOf, referencesOf, setsOf, packIn};
 ghost use Rattle.rules.specs.Judgments.{faultIf};
 ghost use Rattle.rules.specs.Contents.{isTilesName, breaks162, of131, of151, of161, of162, none171, of401};
+ghost use Rattle.rules.specs.Codes.{tableOf, judged};
+ghost use Rattle.index.specs.declared.Kind.the-variants.{TilesName, SetName};
+ghost use Rattle.index.specs.Keys.{Indexes};
+ghost use Rattle.judge.specs.Plans.{planOf, Prepared};
 use crate::judgments::fault_if;
 use crate::judgments::partner_of;
 use crate::judgments::unless_found;
 use crate::references::lacks_id;
 use crate::sets::first_named;
 use index::Key;
+use listing::CONTENTS;
 use listing::ContentsTable;
+use listing::NAMES;
+use listing::REFERENCES;
+use listing::SETS;
 use listing::SetTable;
+use listing::TABLE_COUNT;
+use listing::slice_of;
 use octets::Name;
 use pack::ContentsRow;
 use rules::Judgment;
@@ -80,31 +89,63 @@ pub fn none_171(contents: &[u8], names: &[u8]) -> Judgment
     unless_found(seek::first_content(contents, names, ContentTest::Map, n), n)
 }
 
-pub fn of_401(sets: &[u8], names: &[u8], work: &[u8], m: usize, c: ContentsRow) -> Judgment
-    requires { ⌜ Indexes SetName (now sets) (now names) (now work) m (length (now sets) / 48) ⌝ }
+pub fn of_401(sets: &[u8], names: &[u8], work: &[u8], heads: usize, c: ContentsRow) -> Judgment
+    requires { ⌜ Indexes SetName (now sets) (now names) (now work) heads (length (now sets) / 48) ⌝ }
     ensures { λ r. ⌜ r ≡ of401 (setsOf (now (sets .entry)) (now (names .entry))) (contentOf (now (names .entry)) c) ⌝ }
 {
     if seek::is_of_type(names, b"tiles", c) {
         let n = sets.len() / (SetTable::ROW as usize);
-        return unless_found(first_named(sets, names, work, m, c.name), n);
+        return unless_found(first_named(sets, names, work, heads, c.name), n);
     }
     Judgment::Clean
 }
 
 // ---- tiles names
 
-fn is_tiles_name(contents: &[u8], names: &[u8], work: &[u8], m: usize, x: Name) -> bool
-    requires { ⌜ Indexes TilesName (now contents) (now names) (now work) m (length (now contents) / 40) ⌝ }
+fn is_tiles_name(contents: &[u8], names: &[u8], work: &[u8], heads: usize, x: Name) -> bool
+    requires { ⌜ Indexes TilesName (now contents) (now names) (now work) heads (length (now contents) / 40) ⌝ }
     ensures { λ r. ⌜ r ≡ isTilesName (contentsOf (now (contents .entry)) (now (names .entry))) (spell (now (names .entry)) x) ⌝ }
 {
     let n = contents.len() / (ContentsTable::ROW as usize);
-    index::find(contents, names, work, m, Key::TilesName(x)) < n
+    index::find(contents, names, work, heads, Key::TilesName(x)) < n
 }
 
 // 341, 391, 431: by the name of the row.
-pub fn unless_tiles_name(contents: &[u8], names: &[u8], work: &[u8], m: usize, x: Name) -> Judgment
-    requires { ⌜ Indexes TilesName (now contents) (now names) (now work) m (length (now contents) / 40) ⌝ }
+pub fn unless_tiles_name(
+    contents: &[u8],
+    names: &[u8],
+    work: &[u8],
+    heads: usize,
+    x: Name,
+) -> Judgment
+    requires { ⌜ Indexes TilesName (now contents) (now names) (now work) heads (length (now contents) / 40) ⌝ }
     ensures { λ r. ⌜ r ≡ faultIf (not (isTilesName (contentsOf (now (contents .entry)) (now (names .entry))) (spell (now (names .entry)) x))) ⌝ }
 {
-    fault_if(!is_tiles_name(contents, names, work, m, x))
+    fault_if(!is_tiles_name(contents, names, work, heads, x))
+}
+
+// What the rule of a code says of a contents row: 171 nothing, since its finding has no row.
+pub fn judge_contents(
+    tables: [&[u8]; TABLE_COUNT],
+    work: &[u8],
+    heads: usize,
+    code: u32,
+    i: usize,
+) -> Judgment
+    requires { ⌜ tableOf code ≡ 2 ⌝ }
+    requires { ⌜ Prepared (planOf code) (map now tables) (now work) heads ⌝ }
+    ensures { λ v. ⌜ v ≡ judged (packIn (map now (tables .entry))) code i ⌝ }
+{
+    let contents = slice_of(tables, CONTENTS);
+    let names = slice_of(tables, NAMES);
+    let c = pack::contents_at(contents, i);
+    match code {
+        131 => of_131(contents, names, c, i),
+        151 => of_151(names, c),
+        161 => of_161(slice_of(tables, REFERENCES), names, c),
+        162 => of_162(slice_of(tables, SETS), names, c),
+        171 => Judgment::Clean,
+        401 => of_401(slice_of(tables, SETS), names, work, heads, c),
+        _ => Judgment::Clean,
+    }
 }

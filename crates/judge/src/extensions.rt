@@ -1,13 +1,19 @@
 // The rules on extensions: 601, 621, 622, 641. A text is taken apart where NULL matters: it is octets, or it is NULL.
 ghost use mathlib.Core.Path.{_≡_};
+ghost use mathlib.Core.List.{map};
 ghost use mathlib.Core.Bool.{_||_};
 ghost use Rattle.octets.specs.Texts.{same, octetsOf};
 ghost use Rattle.spelling.specs.ExtensionNames.{isExtensionName};
 ghost use Rattle.spelling.specs.Words.{readWrite, writeOnly};
-ghost use Rattle.pack.specs.Tables.{extensionOf, extensionsOf};
+ghost use Rattle.pack.specs.Tables.{extensionOf, extensionsOf, packIn};
 ghost use Rattle.rules.specs.Extensions.{of601, of621, of622, of641};
+ghost use Rattle.rules.specs.Codes.{tableOf, judged};
 use crate::judgments::fault_if;
 use crate::judgments::partner_of;
+use listing::EXTENSIONS;
+use listing::NAMES;
+use listing::TABLE_COUNT;
+use listing::slice_of;
 use octets::Text;
 use pack::ExtensionRow;
 use rules::Judgment;
@@ -68,4 +74,21 @@ pub fn of_641(names: &[u8], e: ExtensionRow) -> Judgment
 {
     let scope = e.scope;
     fault_if(!is_scope(names, scope))
+}
+
+// What the rule of a code says of an extension row.
+pub fn judge_extension(tables: [&[u8]; TABLE_COUNT], code: u32, i: usize) -> Judgment
+    requires { ⌜ tableOf code ≡ 6 ⌝ }
+    ensures { λ v. ⌜ v ≡ judged (packIn (map now (tables .entry))) code i ⌝ }
+{
+    let extensions = slice_of(tables, EXTENSIONS);
+    let names = slice_of(tables, NAMES);
+    let e = pack::extension_at(extensions, i);
+    match code {
+        601 => of_601(names, e),
+        621 => of_621(names, e),
+        622 => of_622(extensions, names, e, i),
+        641 => of_641(names, e),
+        _ => Judgment::Clean,
+    }
 }

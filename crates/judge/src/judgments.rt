@@ -3,14 +3,12 @@ ghost use mathlib.Core.Path.{_≡_};
 ghost use mathlib.Core.Bool.{cond};
 ghost use lib.Dec.{ltb};
 ghost use Rattle.octets.specs.Search.{first};
-ghost use Rattle.index.specs.Keys.{rowCount, answers, kindOf, meaning, Indexes};
 ghost use Rattle.rules.specs.Judgments.{none, faultIf, partner};
 ghost use Rattle.rules.specs.declared.Judgment.the-variants.{Clean, Hit};
+ghost use Rattle.index.specs.Keys.{rowCount, answers, kindOf, meaning, Indexes};
 use index::Key;
 use rules::Judgment;
-
-// A finding without a partner.
-const NONE: usize = 4294967295;
+use rules::NONE;
 
 pub fn fault_if(fault: bool) -> Judgment
     ensures { λ r. ⌜ r ≡ faultIf fault ⌝ }
@@ -49,15 +47,15 @@ pub fn with_earlier(
     rows: &[u8],
     names: &[u8],
     work: &[u8],
-    m: usize,
+    heads: usize,
     key: Key,
     i: usize,
 ) -> Judgment
-    requires { ⌜ Indexes (kindOf key) (now rows) (now names) (now work) m (rowCount (kindOf key) (now rows)) ⌝ }
+    requires { ⌜ Indexes (kindOf key) (now rows) (now names) (now work) heads (rowCount (kindOf key) (now rows)) ⌝ }
     ensures { λ r. ⌜ r ≡ partner (first (answers (kindOf key) (now (rows .entry)) (now (names .entry)) (meaning (now (names .entry)) key)) i) i ⌝ }
 {
     if i <= index::count(rows, index::kind_of(key)) {
-        return partner_of(index::find(rows, names, work, m, key), i);
+        return partner_of(index::find(rows, names, work, heads, key), i);
     }
     partner_of(index::first_answer(rows, names, key, i), i)
 }

@@ -1,14 +1,14 @@
 // The rules on rows as the code reads them, and the rule of a code.
 ghost use mathlib.Core.Path.{_≡_};
-ghost use Rattle.pack.specs.Tables.{packFrom};
-ghost use Rattle.rules.specs.Codes.{judged, judgedNone};
-ghost use Rattle.judge.specs.Plans.{planOf, First, Second};
-use pack::contents_at;
-use pack::extension_at;
-use pack::matrix_at;
-use pack::reference_at;
-use pack::set_at;
-use pack::tile_at;
+ghost use mathlib.Core.List.{map};
+ghost use Rattle.pack.specs.Tables.{packIn};
+ghost use Rattle.rules.specs.Codes.{tableOf, judged, judgedNone};
+ghost use Rattle.judge.specs.Plans.{planOf, Prepared, PreparedMore};
+use listing::CONTENTS;
+use listing::NAMES;
+use listing::REFERENCES;
+use listing::TABLE_COUNT;
+use listing::slice_of;
 use rules::Judgment;
 
 mod contents;
@@ -20,12 +20,14 @@ mod references;
 mod sets;
 mod tiles;
 
-use matrices::if_below;
-use matrices::of_measured;
-use matrices::unless_positive;
+use contents::judge_contents;
+use extensions::judge_extension;
+use matrices::judge_matrix;
+use references::MINUS_ONE;
+use references::judge_reference;
 use references::lacks_id;
-use references::of_undefined;
-use tiles::of_placed;
+use sets::judge_set;
+use tiles::judge_tile;
 
 // For a search that finds the row by other means, as by an index.
 pub use contents::unless_tiles_name;
@@ -61,97 +63,44 @@ pub enum Plan {
     Ranges,
 }
 
-// The pattern of -1.
-const MINUS_ONE: u64 = 18446744073709551615;
-
 // What the rule of a code says of row i of the code's table. The lent octets are as the code's plan has them.
 pub fn judge(
-    references: &[u8],
-    contents: &[u8],
-    sets: &[u8],
-    matrices: &[u8],
-    tiles: &[u8],
-    extensions: &[u8],
-    names: &[u8],
+    tables: [&[u8]; TABLE_COUNT],
     work: &[u8],
-    m: usize,
-    more: &[u8],
-    l: usize,
+    heads: usize,
+    more_work: &[u8],
+    more_heads: usize,
     code: u32,
+    table: u32,
     i: usize,
 ) -> Judgment
-    requires { ⌜ First (planOf code) (now contents) (now sets) (now matrices) (now names) (now work) m ⌝ }
-    requires { ⌜ Second (planOf code) (now matrices) (now tiles) (now names) (now more) l ⌝ }
-    ensures { λ r. ⌜ r ≡ judged (packFrom (now (references .entry)) (now (contents .entry)) (now (sets .entry)) (now (matrices .entry)) (now (tiles .entry)) (now (extensions .entry)) (now (names .entry))) code i ⌝ }
+    requires { ⌜ table ≡ tableOf code ⌝ }
+    requires { ⌜ Prepared (planOf code) (map now tables) (now work) heads ⌝ }
+    requires { ⌜ PreparedMore (planOf code) (map now tables) (now «more_work») «more_heads» ⌝ }
+    ensures { λ r. ⌜ r ≡ judged (packIn (map now (tables .entry))) code i ⌝ }
 {
-    match code {
-        101 => references::of_101(references, names, reference_at(references, i), i),
-        111 => references::of_111(names, reference_at(references, i)),
-        112 => of_undefined(names, MINUS_ONE, reference_at(references, i)),
-        113 => of_undefined(names, 0, reference_at(references, i)),
-        131 => contents::of_131(contents, names, contents_at(contents, i), i),
-        151 => contents::of_151(names, contents_at(contents, i)),
-        161 => contents::of_161(references, names, contents_at(contents, i)),
-        162 => contents::of_162(sets, names, contents_at(contents, i)),
-        341 => unless_tiles_name(contents, names, work, m, tile_at(tiles, i).name),
-        351 => matrices::of_351(
-            matrices,
-            tiles,
-            extensions,
-            names,
-            work,
-            m,
-            more,
-            l,
-            matrix_at(matrices, i),
-        ),
-        391 => unless_tiles_name(contents, names, work, m, set_at(sets, i).name),
-        392 => sets::of_392(sets, names, work, m, set_at(sets, i), i),
-        401 => contents::of_401(sets, names, work, m, contents_at(contents, i)),
-        411 => lacks_id(references, names, set_at(sets, i).srs_id),
-        431 => unless_tiles_name(contents, names, work, m, matrix_at(matrices, i).name),
-        432 => matrices::of_432(matrices, names, work, m, matrix_at(matrices, i), i),
-        441 => tiles::of_441(matrices, names, work, m, tile_at(tiles, i)),
-        451 => of_measured(sets, names, work, m, Axis::X, matrix_at(matrices, i)),
-        452 => of_measured(sets, names, work, m, Axis::Y, matrix_at(matrices, i)),
-        461 => if_below(0, matrix_at(matrices, i).zoom),
-        471 => if_below(1, matrix_at(matrices, i).width),
-        481 => if_below(1, matrix_at(matrices, i).height),
-        491 => if_below(1, matrix_at(matrices, i).tile_width),
-        501 => if_below(1, matrix_at(matrices, i).tile_height),
-        511 => unless_positive(matrix_at(matrices, i).pixel_x),
-        521 => unless_positive(matrix_at(matrices, i).pixel_y),
-        531 => matrices::of_531(matrices, names, work, m, matrix_at(matrices, i)),
-        541 => tiles::of_541(tiles, names, tile_at(tiles, i), i),
-        551 => tiles::of_551(matrices, names, work, m, more, l, tile_at(tiles, i)),
-        561 => of_placed(matrices, names, work, m, Axis::X, tile_at(tiles, i)),
-        571 => of_placed(matrices, names, work, m, Axis::Y, tile_at(tiles, i)),
-        601 => extensions::of_601(names, extension_at(extensions, i)),
-        621 => extensions::of_621(names, extension_at(extensions, i)),
-        622 => extensions::of_622(extensions, names, extension_at(extensions, i), i),
-        641 => extensions::of_641(names, extension_at(extensions, i)),
+    match table {
+        1 => judge_reference(tables, code, i),
+        2 => judge_contents(tables, work, heads, code, i),
+        3 => judge_set(tables, work, heads, code, i),
+        4 => judge_matrix(tables, work, heads, more_work, more_heads, code, i),
+        5 => judge_tile(tables, work, heads, more_work, more_heads, code, i),
+        6 => judge_extension(tables, code, i),
         _ => Judgment::Clean,
     }
 }
 
 // What the rule of a code says without a row.
-pub fn judge_none(
-    references: &[u8],
-    contents: &[u8],
-    sets: &[u8],
-    matrices: &[u8],
-    tiles: &[u8],
-    extensions: &[u8],
-    names: &[u8],
-    code: u32,
-) -> Judgment
-    ensures { λ r. ⌜ r ≡ judgedNone (packFrom (now (references .entry)) (now (contents .entry)) (now (sets .entry)) (now (matrices .entry)) (now (tiles .entry)) (now (extensions .entry)) (now (names .entry))) code ⌝ }
+pub fn judge_none(tables: [&[u8]; TABLE_COUNT], code: u32) -> Judgment
+    ensures { λ r. ⌜ r ≡ judgedNone (packIn (map now (tables .entry))) code ⌝ }
 {
+    let references = slice_of(tables, REFERENCES);
+    let names = slice_of(tables, NAMES);
     match code {
         111 => lacks_id(references, names, 4326),
         112 => lacks_id(references, names, MINUS_ONE),
         113 => lacks_id(references, names, 0),
-        171 => contents::none_171(contents, names),
+        171 => contents::none_171(slice_of(tables, CONTENTS), names),
         _ => Judgment::Clean,
     }
 }

@@ -1,5 +1,6 @@
 // The rules on matrices: 351, 432, 451, 452, 461, 471, 481, 491, 501, 511, 521, 531 (431 goes by tiles names).
 ghost use mathlib.Core.Path.{_≡_};
+ghost use mathlib.Core.List.{map};
 ghost use Prim.Native.Nat.{ℕ, _/_};
 ghost use mathlib.Core.Bool.{true, not};
 ghost use lib.IntN.{sucℤ};
@@ -9,23 +10,34 @@ ghost use Rattle.octets.specs.Numbers.{signed, eqZ};
 ghost use Rattle.octets.specs.Search.{first};
 ghost use Rattle.octets.specs.Texts.{spell};
 ghost use Rattle.doubles.specs.Doubles.{positive};
-ghost use Rattle.pack.specs.Tables.{matrixOf, matricesOf, setsOf, tilesOf, extensionsOf};
+ghost use Rattle.pack.specs.Tables.{matrixOf, matricesOf, setsOf, tilesOf, extensionsOf, packIn};
 ghost use Rattle.rules.specs.Judgments.{faultIf, some};
 ghost use Rattle.rules.specs.Matrices.{atLevel, tileNamed, frees, breaks351, of351, of432, measured, of531};
+ghost use Rattle.rules.specs.Codes.{tableOf, judged};
 ghost use Rattle.index.specs.declared.Kind.the-variants.{TileName, Level, MatrixName, SetName};
 ghost use Rattle.index.specs.Keys.{Indexes, Shelves};
 ghost use Rattle.judge.specs.Axes.{fitsAlong, ofMeasured};
+ghost use Rattle.judge.specs.Plans.{planOf, Prepared, PreparedMore};
 use crate::Axis;
+use crate::contents::unless_tiles_name;
 use crate::judgments::fault_if;
 use crate::judgments::partner_of;
 use crate::judgments::with_earlier;
 use crate::sets::first_named;
 use doubles::Extent;
 use index::Key;
+use listing::CONTENTS;
+use listing::EXTENSIONS;
 use listing::ExtensionTable;
+use listing::MATRICES;
 use listing::MatrixTable;
+use listing::NAMES;
+use listing::SETS;
 use listing::SetTable;
+use listing::TABLE_COUNT;
+use listing::TILES;
 use listing::TileTable;
+use listing::slice_of;
 use octets::Name;
 use pack::MatrixRow;
 use rules::Judgment;
@@ -34,12 +46,12 @@ use seek::MatrixTest;
 
 // ---- 351
 
-fn has_tile(tiles: &[u8], names: &[u8], more: &[u8], l: usize, x: Name) -> bool
-    requires { ⌜ Indexes TileName (now tiles) (now names) (now more) l (length (now tiles) / 32) ⌝ }
+fn has_tile(tiles: &[u8], names: &[u8], more_work: &[u8], more_heads: usize, x: Name) -> bool
+    requires { ⌜ Indexes TileName (now tiles) (now names) (now «more_work») «more_heads» (length (now tiles) / 32) ⌝ }
     ensures { λ r. ⌜ r ≡ some (tileNamed (spell (now (names .entry)) x)) (tilesOf (now (tiles .entry)) (now (names .entry))) ⌝ }
 {
     let n = tiles.len() / (TileTable::ROW as usize);
-    index::find(tiles, names, more, l, Key::TileName(x)) < n
+    index::find(tiles, names, more_work, more_heads, Key::TileName(x)) < n
 }
 
 // An extension row frees the name from the rule.
@@ -61,8 +73,8 @@ fn one_less(p: u64) -> u64
 }
 
 // The lowest matrix row that breaks 351 with a row, or the count: it is one level lower.
-pub fn first_step(matrices: &[u8], names: &[u8], work: &[u8], m: usize, q: MatrixRow) -> usize
-    requires { ⌜ Shelves Level (now matrices) (now names) (now work) m (length (now matrices) / 64) ⌝ }
+pub fn first_step(matrices: &[u8], names: &[u8], work: &[u8], heads: usize, q: MatrixRow) -> usize
+    requires { ⌜ Shelves Level (now matrices) (now names) (now work) heads (length (now matrices) / 64) ⌝ }
     ensures { λ r. ⌜ r ≡ first (λ j. breaks351 (matrixOf (now (names .entry)) q) (matricesOf (now (matrices .entry)) (now (names .entry)) .row j)) (length (now (matrices .entry)) / 64) ⌝ }
 {
     let name = q.name;
@@ -70,7 +82,7 @@ pub fn first_step(matrices: &[u8], names: &[u8], work: &[u8], m: usize, q: Matri
         name,
         zoom: one_less(q.zoom),
     };
-    index::lowest(matrices, names, work, m, key, MatrixTest::Breaks351(q))
+    index::lowest(matrices, names, work, heads, key, MatrixTest::Breaks351(q))
 }
 
 // Most rows break nothing, so that is asked first.
@@ -80,24 +92,24 @@ pub fn of_351(
     extensions: &[u8],
     names: &[u8],
     work: &[u8],
-    m: usize,
-    more: &[u8],
-    l: usize,
+    heads: usize,
+    more_work: &[u8],
+    more_heads: usize,
     q: MatrixRow,
 ) -> Judgment
-    requires { ⌜ Shelves Level (now matrices) (now names) (now work) m (length (now matrices) / 64) ⌝ }
-    requires { ⌜ Indexes TileName (now tiles) (now names) (now more) l (length (now tiles) / 32) ⌝ }
+    requires { ⌜ Shelves Level (now matrices) (now names) (now work) heads (length (now matrices) / 64) ⌝ }
+    requires { ⌜ Indexes TileName (now tiles) (now names) (now «more_work») «more_heads» (length (now tiles) / 32) ⌝ }
     ensures { λ r. ⌜ r ≡ of351 (matricesOf (now (matrices .entry)) (now (names .entry))) (tilesOf (now (tiles .entry)) (now (names .entry))) (extensionsOf (now (extensions .entry)) (now (names .entry))) (matrixOf (now (names .entry)) q) ⌝ }
 {
     let n = matrices.len() / (MatrixTable::ROW as usize);
-    let k = first_step(matrices, names, work, m, q);
+    let k = first_step(matrices, names, work, heads, q);
     if n <= k {
         return Judgment::Clean;
     }
     if is_free(extensions, names, q.name) {
         return Judgment::Clean;
     }
-    if has_tile(tiles, names, more, l, q.name) {
+    if has_tile(tiles, names, more_work, more_heads, q.name) {
         return Judgment::Hit(k);
     }
     Judgment::Clean
@@ -110,25 +122,25 @@ pub fn first_level(
     matrices: &[u8],
     names: &[u8],
     work: &[u8],
-    m: usize,
+    heads: usize,
     x: Name,
     zoom: u64,
 ) -> usize
-    requires { ⌜ Indexes Level (now matrices) (now names) (now work) m (length (now matrices) / 64) ⌝ }
+    requires { ⌜ Indexes Level (now matrices) (now names) (now work) heads (length (now matrices) / 64) ⌝ }
     ensures { λ r. ⌜ r ≡ first (λ j. atLevel (spell (now (names .entry)) x) (signed zoom) (matricesOf (now (matrices .entry)) (now (names .entry)) .row j)) (length (now (matrices .entry)) / 64) ⌝ }
 {
-    index::find_level(matrices, names, work, m, x, zoom)
+    index::find_level(matrices, names, work, heads, x, zoom)
 }
 
 pub fn of_432(
     matrices: &[u8],
     names: &[u8],
     work: &[u8],
-    m: usize,
+    heads: usize,
     q: MatrixRow,
     i: usize,
 ) -> Judgment
-    requires { ⌜ Indexes Level (now matrices) (now names) (now work) m (length (now matrices) / 64) ⌝ }
+    requires { ⌜ Indexes Level (now matrices) (now names) (now work) heads (length (now matrices) / 64) ⌝ }
     ensures { λ r. ⌜ r ≡ of432 (matricesOf (now (matrices .entry)) (now (names .entry))) (matrixOf (now (names .entry)) q) i ⌝ }
 {
     let name = q.name;
@@ -136,7 +148,7 @@ pub fn of_432(
         matrices,
         names,
         work,
-        m,
+        heads,
         Key::Level { name, zoom: q.zoom },
         i,
     )
@@ -168,11 +180,11 @@ pub fn of_measured(
     sets: &[u8],
     names: &[u8],
     work: &[u8],
-    m: usize,
+    heads: usize,
     along: Axis,
     q: MatrixRow,
 ) -> Judgment
-    requires { ⌜ Indexes SetName (now sets) (now names) (now work) m (length (now sets) / 48) ⌝ }
+    requires { ⌜ Indexes SetName (now sets) (now names) (now work) heads (length (now sets) / 48) ⌝ }
     ensures { λ r. ⌜ r ≡ ofMeasured along (setsOf (now (sets .entry)) (now (names .entry))) (matrixOf (now (names .entry)) q) ⌝ }
 {
     measured(
@@ -180,7 +192,7 @@ pub fn of_measured(
         names,
         along,
         q,
-        first_named(sets, names, work, m, q.name),
+        first_named(sets, names, work, heads, q.name),
     )
 }
 
@@ -202,10 +214,57 @@ pub fn unless_positive(size: f64) -> Judgment
 
 // ---- 531
 
-pub fn of_531(matrices: &[u8], names: &[u8], work: &[u8], m: usize, q: MatrixRow) -> Judgment
-    requires { ⌜ Shelves MatrixName (now matrices) (now names) (now work) m (length (now matrices) / 64) ⌝ }
+pub fn of_531(matrices: &[u8], names: &[u8], work: &[u8], heads: usize, q: MatrixRow) -> Judgment
+    requires { ⌜ Shelves MatrixName (now matrices) (now names) (now work) heads (length (now matrices) / 64) ⌝ }
     ensures { λ r. ⌜ r ≡ of531 (matricesOf (now (matrices .entry)) (now (names .entry))) (matrixOf (now (names .entry)) q) ⌝ }
 {
     let n = matrices.len() / (MatrixTable::ROW as usize);
-    partner_of(index::lowest_531(matrices, names, work, m, q), n)
+    partner_of(index::lowest_531(matrices, names, work, heads, q), n)
+}
+
+// What the rule of a code says of a matrix.
+pub fn judge_matrix(
+    tables: [&[u8]; TABLE_COUNT],
+    work: &[u8],
+    heads: usize,
+    more_work: &[u8],
+    more_heads: usize,
+    code: u32,
+    i: usize,
+) -> Judgment
+    requires { ⌜ tableOf code ≡ 4 ⌝ }
+    requires { ⌜ Prepared (planOf code) (map now tables) (now work) heads ⌝ }
+    requires { ⌜ PreparedMore (planOf code) (map now tables) (now «more_work») «more_heads» ⌝ }
+    ensures { λ v. ⌜ v ≡ judged (packIn (map now (tables .entry))) code i ⌝ }
+{
+    let sets = slice_of(tables, SETS);
+    let matrices = slice_of(tables, MATRICES);
+    let names = slice_of(tables, NAMES);
+    let q = pack::matrix_at(matrices, i);
+    match code {
+        351 => of_351(
+            matrices,
+            slice_of(tables, TILES),
+            slice_of(tables, EXTENSIONS),
+            names,
+            work,
+            heads,
+            more_work,
+            more_heads,
+            q,
+        ),
+        431 => unless_tiles_name(slice_of(tables, CONTENTS), names, work, heads, q.name),
+        432 => of_432(matrices, names, work, heads, q, i),
+        451 => of_measured(sets, names, work, heads, Axis::X, q),
+        452 => of_measured(sets, names, work, heads, Axis::Y, q),
+        461 => if_below(0, q.zoom),
+        471 => if_below(1, q.width),
+        481 => if_below(1, q.height),
+        491 => if_below(1, q.tile_width),
+        501 => if_below(1, q.tile_height),
+        511 => unless_positive(q.pixel_x),
+        521 => unless_positive(q.pixel_y),
+        531 => of_531(matrices, names, work, heads, q),
+        _ => Judgment::Clean,
+    }
 }

@@ -1,8 +1,16 @@
 // The index that a code goes by, made in lent octets. Where they have no room, the index is the plain search.
 ghost use mathlib.Core.Path.{_≡_};
-ghost use Rattle.judge.specs.Plans.{planOf, First, Second};
+ghost use mathlib.Core.List.{map};
+ghost use Rattle.judge.specs.Plans.{planOf, Prepared, PreparedMore};
 use crate::Plan;
 use index::Kind;
+use listing::CONTENTS;
+use listing::MATRICES;
+use listing::NAMES;
+use listing::SETS;
+use listing::TABLE_COUNT;
+use listing::TILES;
+use listing::slice_of;
 
 fn plan_of(code: u32) -> Plan
     ensures { λ r. ⌜ r ≡ planOf code ⌝ }
@@ -27,16 +35,13 @@ fn plan_of(code: u32) -> Plan
 }
 
 // Makes the first part ready for a code, and answers how many heads it has.
-pub fn prepare(
-    contents: &[u8],
-    sets: &[u8],
-    matrices: &[u8],
-    names: &[u8],
-    work: &mut [u8],
-    code: u32,
-) -> usize
-    ensures { λ m. ⌜ First (planOf code) (now (contents .entry)) (now (sets .entry)) (now (matrices .entry)) (now (names .entry)) (now (work .exit)) m ⌝ }
+pub fn prepare(tables: [&[u8]; TABLE_COUNT], work: &mut [u8], code: u32) -> usize
+    ensures { λ heads. ⌜ Prepared (planOf code) (map now (tables .entry)) (now (work .exit)) heads ⌝ }
 {
+    let contents = slice_of(tables, CONTENTS);
+    let sets = slice_of(tables, SETS);
+    let matrices = slice_of(tables, MATRICES);
+    let names = slice_of(tables, NAMES);
     let plan = plan_of(code);
     match plan {
         Plan::Plain => 0,
@@ -49,24 +54,21 @@ pub fn prepare(
     }
 }
 
-// The second part.
-pub fn prepare_more(
-    matrices: &[u8],
-    tiles: &[u8],
-    names: &[u8],
-    more: &mut [u8],
-    code: u32,
-) -> usize
-    ensures { λ l. ⌜ Second (planOf code) (now (matrices .entry)) (now (tiles .entry)) (now (names .entry)) (now (more .exit)) l ⌝ }
+// Makes the second part ready, and answers how many heads that one has.
+pub fn prepare_more(tables: [&[u8]; TABLE_COUNT], work: &mut [u8], code: u32) -> usize
+    ensures { λ heads. ⌜ PreparedMore (planOf code) (map now (tables .entry)) (now (work .exit)) heads ⌝ }
 {
+    let matrices = slice_of(tables, MATRICES);
+    let tiles = slice_of(tables, TILES);
+    let names = slice_of(tables, NAMES);
     let plan = plan_of(code);
     match plan {
         Plan::Plain => 0,
         Plan::Names => 0,
         Plan::Sets => 0,
         Plan::Levels => 0,
-        Plan::Steps => index::index_all(tiles, names, more, Kind::TileName),
+        Plan::Steps => index::index_all(tiles, names, work, Kind::TileName),
         Plan::Sizes => 0,
-        Plan::Ranges => index::shelve(matrices, names, more, Kind::MatrixName),
+        Plan::Ranges => index::shelve(matrices, names, work, Kind::MatrixName),
     }
 }

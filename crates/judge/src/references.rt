@@ -1,16 +1,25 @@
 // The rules on reference systems: 101, 111, 112, 113.
 ghost use mathlib.Core.Path.{_≡_};
+ghost use mathlib.Core.List.{map};
 ghost use Rattle.octets.specs.Numbers.{signed};
 ghost use Rattle.spelling.specs.LetterCase.{inAnyCase};
-ghost use Rattle.pack.specs.Tables.{referenceOf, referencesOf};
+ghost use Rattle.pack.specs.Tables.{referenceOf, referencesOf, packIn};
 ghost use Rattle.rules.specs.Judgments.{faultIf};
 ghost use Rattle.rules.specs.References.{of101, wrong111, of111, wrongUndefined, lacksId};
+ghost use Rattle.rules.specs.Codes.{tableOf, judged};
 use crate::judgments::fault_if;
 use crate::judgments::partner_of;
 use crate::judgments::unless_found;
+use listing::NAMES;
+use listing::REFERENCES;
 use listing::ReferenceTable;
+use listing::TABLE_COUNT;
+use listing::slice_of;
 use pack::ReferenceRow;
 use rules::Judgment;
+
+// The pattern of -1.
+pub const MINUS_ONE: u64 = 18446744073709551615;
 
 pub fn of_101(references: &[u8], names: &[u8], r: ReferenceRow, i: usize) -> Judgment
     ensures { λ v. ⌜ v ≡ of101 (referencesOf (now (references .entry)) (now (names .entry))) (referenceOf (now (names .entry)) r) i ⌝ }
@@ -72,4 +81,21 @@ pub fn lacks_id(references: &[u8], names: &[u8], id: u64) -> Judgment
 {
     let n = references.len() / (ReferenceTable::ROW as usize);
     unless_found(seek::first_id(references, names, id, n), n)
+}
+
+// What the rule of a code says of a reference row.
+pub fn judge_reference(tables: [&[u8]; TABLE_COUNT], code: u32, i: usize) -> Judgment
+    requires { ⌜ tableOf code ≡ 1 ⌝ }
+    ensures { λ v. ⌜ v ≡ judged (packIn (map now (tables .entry))) code i ⌝ }
+{
+    let references = slice_of(tables, REFERENCES);
+    let names = slice_of(tables, NAMES);
+    let r = pack::reference_at(references, i);
+    match code {
+        101 => of_101(references, names, r, i),
+        111 => of_111(names, r),
+        112 => of_undefined(names, MINUS_ONE, r),
+        113 => of_undefined(names, 0, r),
+        _ => Judgment::Clean,
+    }
 }

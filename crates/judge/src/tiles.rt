@@ -1,24 +1,34 @@
 // The rules on tiles: 441, 541, 551, 561, 571 (341 goes by tiles names).
 ghost use mathlib.Core.Path.{_≡_};
+ghost use mathlib.Core.List.{map};
 ghost use Prim.Native.Nat.{_/_};
 ghost use lib.IntN.{pos};
 ghost use lib.ListN.{length};
 ghost use Rattle.octets.specs.Numbers.{signed};
 ghost use Rattle.octets.specs.Search.{any};
 ghost use Rattle.octets.specs.Texts.{spell};
+ghost use Rattle.pack.specs.Tables.{matrixOf, matricesOf, tileOf, tilesOf, packIn};
+ghost use Rattle.rules.specs.Tiles.{of441, of541, of551, offGrid, placed};
+ghost use Rattle.rules.specs.Codes.{tableOf, judged};
 ghost use Rattle.seek.specs.Tests.{matrixPasses};
 ghost use Rattle.index.specs.declared.Kind.the-variants.{Level, MatrixName};
 ghost use Rattle.index.specs.Keys.{Indexes, Shelves, Confines};
-ghost use Rattle.pack.specs.Tables.{matrixOf, matricesOf, tileOf, tilesOf};
-ghost use Rattle.rules.specs.Tiles.{of441, of541, of551, offGrid, placed};
 ghost use Rattle.judge.specs.Axes.{offAlong, ofPlaced};
+ghost use Rattle.judge.specs.Plans.{planOf, Prepared, PreparedMore};
 use crate::Axis;
+use crate::contents::unless_tiles_name;
 use crate::judgments::fault_if;
 use crate::judgments::partner_of;
 use crate::judgments::unless_found;
 use crate::matrices::first_level;
 use index::Key;
+use listing::CONTENTS;
+use listing::MATRICES;
 use listing::MatrixTable;
+use listing::NAMES;
+use listing::TABLE_COUNT;
+use listing::TILES;
+use listing::slice_of;
 use octets::Name;
 use pack::MatrixRow;
 use pack::TileRow;
@@ -26,12 +36,12 @@ use rules::Judgment;
 use seek::MatrixTest;
 use seek::TileTest;
 
-pub fn of_441(matrices: &[u8], names: &[u8], work: &[u8], m: usize, t: TileRow) -> Judgment
-    requires { ⌜ Indexes Level (now matrices) (now names) (now work) m (length (now matrices) / 64) ⌝ }
+pub fn of_441(matrices: &[u8], names: &[u8], work: &[u8], heads: usize, t: TileRow) -> Judgment
+    requires { ⌜ Indexes Level (now matrices) (now names) (now work) heads (length (now matrices) / 64) ⌝ }
     ensures { λ r. ⌜ r ≡ of441 (matricesOf (now (matrices .entry)) (now (names .entry))) (tileOf (now (names .entry)) t) ⌝ }
 {
     let n = matrices.len() / (MatrixTable::ROW as usize);
-    unless_found(first_level(matrices, names, work, m, t.name, t.zoom), n)
+    unless_found(first_level(matrices, names, work, heads, t.name, t.zoom), n)
 }
 
 pub fn of_541(tiles: &[u8], names: &[u8], t: TileRow, i: usize) -> Judgment
@@ -51,28 +61,65 @@ pub fn of_541(tiles: &[u8], names: &[u8], t: TileRow, i: usize) -> Judgment
 fn has_level(
     matrices: &[u8],
     names: &[u8],
-    more: &[u8],
-    l: usize,
+    more_work: &[u8],
+    more_heads: usize,
     x: Name,
     test: MatrixTest,
 ) -> bool
-    requires { ⌜ Shelves MatrixName (now matrices) (now names) (now more) l (length (now matrices) / 64) ⌝ }
+    requires { ⌜ Shelves MatrixName (now matrices) (now names) (now «more_work») «more_heads» (length (now matrices) / 64) ⌝ }
     requires { ⌜ Confines MatrixName (now matrices) (now names) (spell (now names) x, pos 0, pos 0, pos 0) (λ k. matrixPasses (now names) test (matricesOf (now matrices) (now names) .row k)) ⌝ }
     ensures { λ r. ⌜ r ≡ any (λ k. matrixPasses (now (names .entry)) test (matricesOf (now (matrices .entry)) (now (names .entry)) .row k)) (length (now (matrices .entry)) / 64) ⌝ }
 {
     let n = matrices.len() / (MatrixTable::ROW as usize);
-    index::lowest(matrices, names, more, l, Key::MatrixName(x), test) < n
+    index::lowest(
+        matrices,
+        names,
+        more_work,
+        more_heads,
+        Key::MatrixName(x),
+        test,
+    )
+        < n
 }
 
-// Its zoom is outside those of its name's matrix rows.
-fn of_range(matrices: &[u8], names: &[u8], more: &[u8], l: usize, t: TileRow) -> Judgment
-    requires { ⌜ Shelves MatrixName (now matrices) (now names) (now more) l (length (now matrices) / 64) ⌝ }
+// 551 of a tile whose level has no row: its zoom is outside those of its name's matrix rows.
+fn of_range(
+    matrices: &[u8],
+    names: &[u8],
+    more_work: &[u8],
+    more_heads: usize,
+    t: TileRow,
+) -> Judgment
+    requires { ⌜ Shelves MatrixName (now matrices) (now names) (now «more_work») «more_heads» (length (now matrices) / 64) ⌝ }
     ensures { λ r. ⌜ r ≡ of551 (matricesOf (now (matrices .entry)) (now (names .entry))) (tileOf (now (names .entry)) t) ⌝ }
 {
     let name = t.name;
-    if has_level(matrices, names, more, l, name, MatrixTest::Named(name)) {
-        if has_level(matrices, names, more, l, name, MatrixTest::AtMost(t)) {
-            return fault_if(!has_level(matrices, names, more, l, name, MatrixTest::AtLeast(t)));
+    if has_level(
+        matrices,
+        names,
+        more_work,
+        more_heads,
+        name,
+        MatrixTest::Named(name),
+    ) {
+        if has_level(
+            matrices,
+            names,
+            more_work,
+            more_heads,
+            name,
+            MatrixTest::AtMost(t),
+        ) {
+            return fault_if(
+                !has_level(
+                    matrices,
+                    names,
+                    more_work,
+                    more_heads,
+                    name,
+                    MatrixTest::AtLeast(t),
+                ),
+            );
         }
         return fault_if(true);
     }
@@ -84,20 +131,20 @@ pub fn of_551(
     matrices: &[u8],
     names: &[u8],
     work: &[u8],
-    m: usize,
-    more: &[u8],
-    l: usize,
+    heads: usize,
+    more_work: &[u8],
+    more_heads: usize,
     t: TileRow,
 ) -> Judgment
-    requires { ⌜ Indexes Level (now matrices) (now names) (now work) m (length (now matrices) / 64) ⌝ }
-    requires { ⌜ Shelves MatrixName (now matrices) (now names) (now more) l (length (now matrices) / 64) ⌝ }
+    requires { ⌜ Indexes Level (now matrices) (now names) (now work) heads (length (now matrices) / 64) ⌝ }
+    requires { ⌜ Shelves MatrixName (now matrices) (now names) (now «more_work») «more_heads» (length (now matrices) / 64) ⌝ }
     ensures { λ r. ⌜ r ≡ of551 (matricesOf (now (matrices .entry)) (now (names .entry))) (tileOf (now (names .entry)) t) ⌝ }
 {
     let n = matrices.len() / (MatrixTable::ROW as usize);
-    if first_level(matrices, names, work, m, t.name, t.zoom) < n {
+    if first_level(matrices, names, work, heads, t.name, t.zoom) < n {
         return Judgment::Clean;
     }
-    of_range(matrices, names, more, l, t)
+    of_range(matrices, names, more_work, more_heads, t)
 }
 
 // ---- 561, 571: k is the first matrix row of the tile's name and zoom
@@ -133,11 +180,11 @@ pub fn of_placed(
     matrices: &[u8],
     names: &[u8],
     work: &[u8],
-    m: usize,
+    heads: usize,
     along: Axis,
     t: TileRow,
 ) -> Judgment
-    requires { ⌜ Indexes Level (now matrices) (now names) (now work) m (length (now matrices) / 64) ⌝ }
+    requires { ⌜ Indexes Level (now matrices) (now names) (now work) heads (length (now matrices) / 64) ⌝ }
     ensures { λ r. ⌜ r ≡ ofPlaced along (matricesOf (now (matrices .entry)) (now (names .entry))) (tileOf (now (names .entry)) t) ⌝ }
 {
     placed(
@@ -145,6 +192,36 @@ pub fn of_placed(
         names,
         along,
         t,
-        first_level(matrices, names, work, m, t.name, t.zoom),
+        first_level(matrices, names, work, heads, t.name, t.zoom),
     )
+}
+
+// What the rule of a code says of a tile.
+pub fn judge_tile(
+    tables: [&[u8]; TABLE_COUNT],
+    work: &[u8],
+    heads: usize,
+    more_work: &[u8],
+    more_heads: usize,
+    code: u32,
+    i: usize,
+) -> Judgment
+    requires { ⌜ tableOf code ≡ 5 ⌝ }
+    requires { ⌜ Prepared (planOf code) (map now tables) (now work) heads ⌝ }
+    requires { ⌜ PreparedMore (planOf code) (map now tables) (now «more_work») «more_heads» ⌝ }
+    ensures { λ v. ⌜ v ≡ judged (packIn (map now (tables .entry))) code i ⌝ }
+{
+    let matrices = slice_of(tables, MATRICES);
+    let tiles = slice_of(tables, TILES);
+    let names = slice_of(tables, NAMES);
+    let t = pack::tile_at(tiles, i);
+    match code {
+        341 => unless_tiles_name(slice_of(tables, CONTENTS), names, work, heads, t.name),
+        441 => of_441(matrices, names, work, heads, t),
+        541 => of_541(tiles, names, t, i),
+        551 => of_551(matrices, names, work, heads, more_work, more_heads, t),
+        561 => of_placed(matrices, names, work, heads, Axis::X, t),
+        571 => of_placed(matrices, names, work, heads, Axis::Y, t),
+        _ => Judgment::Clean,
+    }
 }

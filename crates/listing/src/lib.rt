@@ -6,6 +6,7 @@ ghost use Rattle.listing.specs.Listing.{count, offset};
 mod header;
 mod refusals;
 mod rows;
+mod tables;
 
 use header::count_of;
 pub use header::most_of;
@@ -16,6 +17,16 @@ pub use refusals::accept;
 pub use rows::first_bad_contents;
 pub use rows::first_bad_row;
 pub use rows::rows_of;
+pub use tables::CONTENTS;
+pub use tables::EXTENSIONS;
+pub use tables::MATRICES;
+pub use tables::NAMES;
+pub use tables::REFERENCES;
+pub use tables::SETS;
+pub use tables::TABLE_COUNT;
+pub use tables::TILES;
+pub use tables::cut;
+pub use tables::slice_of;
 
 // Each table knows the octets of its row and its most rows. What the header says of it: how many rows, and where.
 pub struct ReferenceTable {
@@ -34,7 +45,7 @@ impl ReferenceTable {
         Self { count, offset }
     }
 
-    // As the header has it.
+    // What the header says of this table.
     pub fn read(s: &[u8]) -> Self
         ensures { λ r. ⌜ (r .count ≡ count (now (s .entry)) 1) × (r .offset ≡ offset (now (s .entry)) 1) ⌝ }
     {
@@ -58,7 +69,7 @@ impl ContentsTable {
         Self { count, offset }
     }
 
-    // As the header has it.
+    // What the header says of this table.
     pub fn read(s: &[u8]) -> Self
         ensures { λ r. ⌜ (r .count ≡ count (now (s .entry)) 2) × (r .offset ≡ offset (now (s .entry)) 2) ⌝ }
     {
@@ -82,7 +93,7 @@ impl SetTable {
         Self { count, offset }
     }
 
-    // As the header has it.
+    // What the header says of this table.
     pub fn read(s: &[u8]) -> Self
         ensures { λ r. ⌜ (r .count ≡ count (now (s .entry)) 3) × (r .offset ≡ offset (now (s .entry)) 3) ⌝ }
     {
@@ -106,7 +117,7 @@ impl MatrixTable {
         Self { count, offset }
     }
 
-    // As the header has it.
+    // What the header says of this table.
     pub fn read(s: &[u8]) -> Self
         ensures { λ r. ⌜ (r .count ≡ count (now (s .entry)) 4) × (r .offset ≡ offset (now (s .entry)) 4) ⌝ }
     {
@@ -130,7 +141,7 @@ impl TileTable {
         Self { count, offset }
     }
 
-    // As the header has it.
+    // What the header says of this table.
     pub fn read(s: &[u8]) -> Self
         ensures { λ r. ⌜ (r .count ≡ count (now (s .entry)) 5) × (r .offset ≡ offset (now (s .entry)) 5) ⌝ }
     {
@@ -154,7 +165,7 @@ impl ExtensionTable {
         Self { count, offset }
     }
 
-    // As the header has it.
+    // What the header says of this table.
     pub fn read(s: &[u8]) -> Self
         ensures { λ r. ⌜ (r .count ≡ count (now (s .entry)) 6) × (r .offset ≡ offset (now (s .entry)) 6) ⌝ }
     {
@@ -178,7 +189,7 @@ impl NameTable {
         Self { count, offset }
     }
 
-    // As the header has it.
+    // What the header says of this table.
     pub fn read(s: &[u8]) -> Self
         ensures { λ r. ⌜ (r .count ≡ count (now (s .entry)) 7) × (r .offset ≡ offset (now (s .entry)) 7) ⌝ }
     {

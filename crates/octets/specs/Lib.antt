@@ -9,3 +9,4 @@ pub mod NumberLaws
 pub mod Texts
 pub mod TextLaws
 pub mod TableLaws
+pub mod Slices

@@ -204,7 +204,7 @@ pub fn is_less(a: u64, b: u64) -> bool
     bias(a) < bias(b)
 }
 
-// They are equal.
+// The i64s of two patterns are equal.
 pub fn is_equal(a: u64, b: u64) -> bool
     ensures { λ r. ⌜ r ≡ eqZ (signed a) (signed b) ⌝ }
 {

@@ -8,7 +8,8 @@ use borrow.Author.Tests.{le-ltb, ltb-true, ltb-false}
 use lib.Dec.{ltb, leb}
 use lib.ListN.{length, getD, take, drop}
 use Rattle.octets.specs.Octets.{part}
-use Rattle.listing.specs.Listing.{row, most, count, table, rows}
+use Rattle.octets.specs.Slices.{nth}
+use Rattle.listing.specs.Listing.{row, most, count, table, tablesOf, rows}
 use Rattle.listing.specs.Refusals.{outcome, isAccepted}
 use Rattle.listing.specs.ListingLaws.{count-most, table-rows}
 use Rattle.pack.specs.Rows.{Rows, Pack, rowsIn}
@@ -93,7 +94,7 @@ packs-equal s t h = λ k. record {
 module _ (s : List ℕ) where
   -- as many as its octets hold
   pub count-rows : (k : ℕ) → 1 ≤ k → k ≤ 6 → rowsIn (packOf s) k ≡ rows k (table s k)
-  unfolding packOf rows row rowsIn
+  unfolding packOf tablesOf nth rows row rowsIn
   count-rows zero l h = omega arith
   count-rows (suc zero) l h = refl
   count-rows (suc (suc zero)) l h = refl

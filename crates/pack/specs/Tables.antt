@@ -9,11 +9,12 @@ use lib.IntN.{pos}
 use lib.Ieee.{Float, fin, binary64, ofBits}
 use Rattle.octets.specs.Octets.{le32, le64}
 use Rattle.octets.specs.Numbers.{signed}
+use Rattle.octets.specs.Slices.{nth}
 use Rattle.octets.specs.Texts.{There, Null, textAt, nameAt, spell, reads, octetsOf}
 use Rattle.octets.specs.declared.Name.{Name}
 use Rattle.octets.specs.declared.Text.the-variants as text
 use Rattle.doubles.specs.declared.Extent.{Extent}
-use Rattle.listing.specs.Listing.{table}
+use Rattle.listing.specs.Listing.{tablesOf}
 use Rattle.pack.specs.Rows.{Rows, Reference, Content, MatrixSet, Matrix, Tile, Extension, Pack}
 use Rattle.pack.specs.declared.ReferenceRow.{ReferenceRow}
 use Rattle.pack.specs.declared.ContentsRow.{ContentsRow}
@@ -189,15 +190,15 @@ abbrev pub extensionsOf : List ℕ → List ℕ → Rows Extension
 extensionsOf t names = record { count = length t / 32; row = λ i. extensionOf names (extensionRow t i) }
 
 -- ---- the pack of seven tables, and that of a listing
-abbrev pub packFrom : List ℕ → List ℕ → List ℕ → List ℕ → List ℕ → List ℕ → List ℕ → Pack
-packFrom references contents sets matrices tiles extensions names = record {
-  references = referencesOf references names;
-  contents = contentsOf contents names;
-  sets = setsOf sets names;
-  matrices = matricesOf matrices names;
-  tiles = tilesOf tiles names;
-  extensions = extensionsOf extensions names;
+abbrev pub packIn : List (List ℕ) → Pack
+packIn ts = record {
+  references = referencesOf (nth ts 0) (nth ts 6);
+  contents = contentsOf (nth ts 1) (nth ts 6);
+  sets = setsOf (nth ts 2) (nth ts 6);
+  matrices = matricesOf (nth ts 3) (nth ts 6);
+  tiles = tilesOf (nth ts 4) (nth ts 6);
+  extensions = extensionsOf (nth ts 5) (nth ts 6);
 }
 
 unfoldable pub packOf : List ℕ → Pack
-packOf s = packFrom (table s 1) (table s 2) (table s 3) (table s 4) (table s 5) (table s 6) (table s 7)
+packOf s = packIn (tablesOf s)

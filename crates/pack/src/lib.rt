@@ -12,9 +12,11 @@ use octets::Name;
 use octets::Text;
 
 mod blank;
+mod counts;
 mod read;
 mod texts;
 
+pub use counts::rows_in;
 pub use texts::same_text;
 pub use texts::text_octets;
 

@@ -8,8 +8,7 @@ use native.Mathlib.Omega.{arith}
 use lib.ListN.{length, getD, drop}
 use lib.Seq.{drop-cons, drop-drop, getD-drop}
 use borrow.Author.Tests.{eq-eqb, ne-eqb}
-use Rattle.rules.specs.Codes.{codes, tables, codeAt, tableAt}
-use Rattle.findings.specs.Findings.{seek, tableOf}
+use Rattle.rules.specs.Codes.{codes, tables, codeCount, codeAt, tableAt, seek, tableOf}
 
 hit : (ks ts : List ℕ) (c k : ℕ) → k < length ks → c ≡ getD ks k 0 → seek (drop k ks) (drop k ts) c ≡ getD ts k 0
 hit ks ts c k h e = rw (drop-cons ks k 0 h, eq-eqb c (getD ks k 0) e, getD-drop k ts 0 0, add-zero)
@@ -19,7 +18,7 @@ miss ks ts c k h e = rw (drop-cons ks k 0 h, ne-eqb c (getD ks k 0) e, drop-drop
 
 -- a code that is none of the first k
 pub record Sought (c k : ℕ) : Type 0 where
-  pub within : k ≤ 36
+  pub within : k ≤ codeCount
   pub left : tableOf c ≡ seek (drop k codes) (drop k tables) c
 
 module _ (c : ℕ) where
@@ -27,13 +26,13 @@ module _ (c : ℕ) where
   unfolding tableOf
   sought-start = record { within = omega arith; left = refl }
 
-  pub sought-hit : (k d t : ℕ) → Sought c k → k < 36 → d ≡ codeAt k → c ≡ d → t ≡ tableAt k → t ≡ tableOf c
+  pub sought-hit : (k d t : ℕ) → Sought c k → k < codeCount → d ≡ codeAt k → c ≡ d → t ≡ tableAt k → t ≡ tableOf c
   unfolding codeAt tableAt
   sought-hit k d t s l e f g = g ∙ sym (s .left ∙ hit codes tables c k l (f ∙ e))
 
-  pub sought-more : (k d : ℕ) → Sought c k → k < 36 → d ≡ codeAt k → (c ≡ d → ⊥) → Sought c (k + 1)
+  pub sought-more : (k d : ℕ) → Sought c k → k < codeCount → d ≡ codeAt k → (c ≡ d → ⊥) → Sought c (k + 1)
   unfolding codeAt
   sought-more k d s l e n = record { within = add-one-le l; left = s .left ∙ miss codes tables c k l (λ q. n (q ∙ sym e)) }
 
-  pub sought-end : (k : ℕ) → Sought c k → 36 ≤ k → 0 ≡ tableOf c
+  pub sought-end : (k : ℕ) → Sought c k → codeCount ≤ k → 0 ≡ tableOf c
   sought-end k s l = sym (s .left ∙ ap (λ (j : ℕ). seek (drop j codes) (drop j tables) c) (le-antisymm (s .within) l))

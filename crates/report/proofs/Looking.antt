@@ -6,13 +6,12 @@ use mathlib.Core.List.{List}
 use borrow.Author.Tests.{lt-ltb, le-ltb}
 use lib.Dec.{ltb}
 use lib.IntN.{ℤ}
-use Rattle.listing.specs.Listing.{table}
+use Rattle.listing.specs.Listing.{tablesOf}
 use Rattle.listing.specs.Refusals.{outcome}
 use Rattle.listing.specs.declared.Layout.{Layout}
 use Rattle.listing.specs.declared.Outcome.{Outcome}
 use Rattle.listing.specs.declared.Outcome.the-variants as reading
-use Rattle.pack.specs.Rows.{Rows, Content, Tile}
-use Rattle.pack.specs.Tables.{contentsOf, tilesOf, packOf}
+use Rattle.pack.specs.Tables.{packIn, packOf}
 use Rattle.findings.specs.Answers.{lookedUp, lookupOf, ruled, verdictOf}
 use Rattle.findings.specs.declared.Located.{Located}
 use Rattle.findings.specs.declared.Located.the-variants as look
@@ -38,7 +37,6 @@ module _ (s : List ℕ) (k : ℕ) (z c r : ℤ) (o : Outcome) (e : o ≡ outcome
   unfolding lookupOf
   lookup-refused n t i f = simp (← e, f)
 
-  pub lookup-done : (l : Layout) (cs ts ns : List ℕ) (v : Located) → o ≡ reading.Accepted l → cs ≡ table s 2 → ts ≡ table s 5 → ns ≡ table s 7
-      → v ≡ lookedUp (contentsOf cs ns) (tilesOf ts ns) k z c r → v ≡ lookupOf s k z c r
+  pub lookup-done : (l : Layout) (ts : List (List ℕ)) (v : Located) → o ≡ reading.Accepted l → ts ≡ tablesOf s → v ≡ lookedUp (packIn ts) k z c r → v ≡ lookupOf s k z c r
   unfolding lookupOf packOf
-  lookup-done l cs ts ns v f a b d q = simp (← e, f, ← a, ← b, ← d) q
+  lookup-done l ts v f a q = simp (← e, f, ← a) q

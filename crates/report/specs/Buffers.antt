@@ -6,6 +6,7 @@ use mathlib.Core.Bool.{Bool, cond}
 use lib.Dec.{eqb, ltb}
 use lib.ListN.{length}
 use lib.Seq.{sets}
+use Rattle.rules.specs.Judgments.{none}
 use Rattle.findings.specs.Findings.{Finding}
 use Rattle.findings.specs.Words.{octetsOf, findingWords, wordsOf, room}
 use Rattle.report.specs.declared.Tally.{Tally}
@@ -24,7 +25,7 @@ put b n (f ∷ fs) = put (putOne b n f) (suc n) fs
 
 -- before the first finding
 abbrev pub noTally : Tally
-noTally = record { total = 0; row = 4294967295 }
+noTally = record { total = 0; row = none }
 
 -- the row of the first finding
 abbrev pub headRow : List Finding → ℕ → ℕ

@@ -12,11 +12,13 @@ use Rattle.listing.specs.Refusals.{outcome, numberOf, tableOf, rowOf, isAccepte
 use Rattle.listing.specs.declared.Layout.{Layout}
 use Rattle.listing.specs.declared.Outcome.{Outcome}
 use Rattle.listing.specs.declared.Outcome.the-variants.{Accepted, Refused}
-use Rattle.listing.specs.Listing.{table}
+use Rattle.listing.specs.Listing.{tablesOf}
 use Rattle.pack.specs.Rows.{Pack, rowsIn}
-use Rattle.pack.specs.Tables.{packFrom, packOf}
+use Rattle.pack.specs.Tables.{packIn, packOf}
 use Rattle.pack.specs.PackLaws.{rows-numbered}
-use Rattle.findings.specs.Findings.{Finding, ofCode, findings, tableOf as tableOfCode}
+use Rattle.rules.specs.Codes.{tableOf as tableOfCode}
+use Rattle.rules.specs.Judgments.{none}
+use Rattle.findings.specs.Findings.{Finding, ofCode, findings}
 use Rattle.findings.specs.Answers.{reported, failOr, alwaysTestable, withoutFinding, ruled, verdictOf, isRefused}
 use Rattle.findings.specs.OrderLaws.{Numbered}
 use Rattle.findings.specs.Words.{findingOctets, room, writtenOf, bufferOf}
@@ -91,26 +93,25 @@ module _ (p : Pack) (c t : ℕ) (e : t ≡ tableOfCode c) (b b′ : List ℕ) (k
 
   pub rule-fail : (k .total ≡ 0 → ⊥) → Fail (k .row) ≡ ruled p c
   rule-fail n =
-      ap Fail (a .row) ∙ tally-some (ofCode p c t) (withoutFinding c (rowsIn p t)) 4294967295 (λ z. n (a .count ∙ zero-add (length (ofCode p c t)) ∙ z)) ∙ at-table
+      ap Fail (a .row) ∙ tally-some (ofCode p c t) (withoutFinding c (rowsIn p t)) none (λ z. n (a .count ∙ zero-add (length (ofCode p c t)) ∙ z)) ∙ at-table
 
   pub rule-clean : (n : ℕ) (v : Ruling) → k .total ≡ 0 → n ≡ rowsIn p t → v ≡ withoutFinding c n → v ≡ ruled p c
   rule-clean n v z q f =
       f ∙ ap (withoutFinding c) q ∙ tally-none (ofCode p c t) (withoutFinding c (rowsIn p t)) (sym (a .count ∙ zero-add (length (ofCode p c t))) ∙ z) ∙ at-table
 
 -- ---- a listing cut into its tables
-module _ (s x₁ x₂ x₃ x₄ x₅ x₆ x₇ : List ℕ)
-    (e₁ : x₁ ≡ table s 1) (e₂ : x₂ ≡ table s 2) (e₃ : x₃ ≡ table s 3) (e₄ : x₄ ≡ table s 4) (e₅ : x₅ ≡ table s 5) (e₆ : x₆ ≡ table s 6) (e₇ : x₇ ≡ table s 7) where
-  pub cut-pack : packFrom x₁ x₂ x₃ x₄ x₅ x₆ x₇ ≡ packOf s
+module _ (s : List ℕ) (ts : List (List ℕ)) (e : ts ≡ tablesOf s) where
+  pub cut-pack : packIn ts ≡ packOf s
   unfolding packOf
-  cut-pack = simp (e₁, e₂, e₃, e₄, e₅, e₆, e₇)
+  cut-pack = ap packIn e
 
-  pub cut-numbered : isAccepted (outcome s) ≡ true → Numbered (packFrom x₁ x₂ x₃ x₄ x₅ x₆ x₇)
+  pub cut-numbered : isAccepted (outcome s) ≡ true → Numbered (packIn ts)
   cut-numbered a = subst Numbered (sym cut-pack) (rows-numbered s a)
 
-  pub cut-ruled : (c : ℕ) (v : Ruling) → v ≡ ruled (packFrom x₁ x₂ x₃ x₄ x₅ x₆ x₇) c → v ≡ ruled (packOf s) c
+  pub cut-ruled : (c : ℕ) (v : Ruling) → v ≡ ruled (packIn ts) c → v ≡ ruled (packOf s) c
   cut-ruled c v q = q ∙ ap (λ (p : Pack). ruled p c) cut-pack
 
-  pub cut-added : (b b′ : List ℕ) (t t′ : Tally) → Added (findings (packFrom x₁ x₂ x₃ x₄ x₅ x₆ x₇)) b t b′ t′ → Added (findings (packOf s)) b t b′ t′
+  pub cut-added : (b b′ : List ℕ) (t t′ : Tally) → Added (findings (packIn ts)) b t b′ t′ → Added (findings (packOf s)) b t b′ t′
   cut-added b b′ t t′ a = subst (λ (p : Pack). Added (findings p) b t b′ t′) cut-pack a
 
 pub accepted-by : (s : List ℕ) (o : Outcome) (l : Layout) → o ≡ outcome s → o ≡ Accepted l → isAccepted (outcome s) ≡ true

@@ -1,12 +1,13 @@
 // Answers as words in a buffer.
 ghost use mathlib.Core.Path.{_≡_};
-ghost use Prim.Native.Nat.{_+_, _≤_};
 ghost use mathlib.Core.List.{[], _∷_};
+ghost use Prim.Native.Nat.{_+_, _≤_};
 ghost use lib.ListN.{length};
 ghost use lib.Seq.{sets};
 ghost use Rattle.findings.specs.Words.{octetsOf, rulingWords, locatedWords};
 use findings::Located;
 use findings::Ruling;
+use rules::NONE;
 
 // A refusal's number, table and row.
 pub fn put_refusal(answer: &mut [u8], at: usize, number: u32, table: u32, row: u32)
@@ -41,17 +42,10 @@ pub fn put_ruling(answer: &mut [u8], v: Ruling)
     ensures { λ _. ⌜ now (answer .exit) ≡ sets (now (answer .entry)) 0 (octetsOf (rulingWords v)) ⌝ }
 {
     match v {
-        Ruling::Pass => put_five(answer, 0, 4294967295, 0, 0, 0),
+        Ruling::Pass => put_five(answer, 0, NONE, 0, 0, 0),
         Ruling::Fail(i) => put_five(answer, 1, i, 0, 0, 0),
-        Ruling::NotTestable => put_five(answer, 2, 4294967295, 0, 0, 0),
-        Ruling::Refused { number, table, row } => put_five(
-            answer,
-            3,
-            4294967295,
-            number,
-            table,
-            row,
-        ),
+        Ruling::NotTestable => put_five(answer, 2, NONE, 0, 0, 0),
+        Ruling::Refused { number, table, row } => put_five(answer, 3, NONE, number, table, row),
     }
 }
 
@@ -62,7 +56,7 @@ pub fn put_located(answer: &mut [u8], a: Located)
 {
     match a {
         Located::At(i) => put_four(answer, i, 0, 0, 0),
-        Located::Nowhere => put_four(answer, 4294967295, 0, 0, 0),
-        Located::Refused { number, table, row } => put_four(answer, 4294967295, number, table, row),
+        Located::Nowhere => put_four(answer, NONE, 0, 0, 0),
+        Located::Refused { number, table, row } => put_four(answer, NONE, number, table, row),
     }
 }

@@ -1,25 +1,26 @@
 // The verdict of one code.
 ghost use mathlib.Core.Path.{_≡_};
-ghost use Rattle.findings.specs.Findings.{tableOf};
-ghost use Rattle.findings.specs.Answers.{alwaysTestable, withoutFinding};
-ghost use Rattle.findings.specs.Answers.{ruled};
-ghost use Rattle.report.specs.Promises.{VerdictOf};
+ghost use mathlib.Core.List.{map};
 ghost use mathlib.Core.Bool.{true};
 ghost use Rattle.listing.specs.Refusals.{outcome, isAccepted};
-ghost use Rattle.pack.specs.Tables.{packFrom, packOf};
+ghost use Rattle.pack.specs.Tables.{packIn, packOf};
+ghost use Rattle.rules.specs.Codes.{tableOf};
+ghost use Rattle.findings.specs.Answers.{alwaysTestable, withoutFinding, ruled};
 ghost use Rattle.findings.specs.OrderLaws.{Numbered};
+ghost use Rattle.report.specs.Promises.{VerdictOf};
 use crate::Tally;
 use crate::walk::add_code;
-use crate::walk::rows_in;
 use findings::Ruling;
-use listing::table_of;
+use listing::TABLE_COUNT;
+use rules::CODE_COUNT;
+use rules::NONE;
 
 // The table that a code belongs to; 0 where it is none of the 36.
 fn table_of_code(code: u32) -> u32
     ensures { λ r. ⌜ r ≡ tableOf code ⌝ }
 {
     let mut k = 0;
-    while k < 36 {
+    while k < CODE_COUNT {
         if code == rules::code_at(k) {
             return rules::table_at(k);
         }
@@ -58,36 +59,19 @@ fn without_finding(code: u32, n: usize) -> Ruling
 }
 
 // The ruling of a listed code: the row of its first finding, or none.
-fn rule(
-    references: &[u8],
-    contents: &[u8],
-    sets: &[u8],
-    matrices: &[u8],
-    tiles: &[u8],
-    extensions: &[u8],
-    names: &[u8],
-    work: &mut [u8],
-    code: u32,
-    table: u32,
-) -> Ruling
-    requires { ⌜ Numbered (packFrom (now references) (now contents) (now sets) (now matrices) (now tiles) (now extensions) (now names)) ⌝ }
+fn rule(tables: [&[u8]; TABLE_COUNT], work: &mut [u8], code: u32, table: u32) -> Ruling
+    requires { ⌜ Numbered (packIn (map now tables)) ⌝ }
     requires { ⌜ table ≡ tableOf code ⌝ }
-    ensures { λ r. ⌜ r ≡ ruled (packFrom (now (references .entry)) (now (contents .entry)) (now (sets .entry)) (now (matrices .entry)) (now (tiles .entry)) (now (extensions .entry)) (now (names .entry))) code ⌝ }
+    ensures { λ r. ⌜ r ≡ ruled (packIn (map now (tables .entry))) code ⌝ }
 {
     // No finding is kept: the tally has what a verdict needs.
     let mut kept = [0u8; 1];
     let none = Tally {
         total: 0,
-        row: 4294967295,
+        row: NONE,
     };
     let t = add_code(
-        references,
-        contents,
-        sets,
-        matrices,
-        tiles,
-        extensions,
-        names,
+        tables,
         &mut kept,
         work,
         survey::unknown(),
@@ -98,17 +82,7 @@ fn rule(
     if t.total != 0 {
         return Ruling::Fail(t.row);
     }
-    let n = rows_in(
-        references,
-        contents,
-        sets,
-        matrices,
-        tiles,
-        extensions,
-        names,
-        table,
-    );
-    without_finding(code, n)
+    without_finding(code, pack::rows_in(tables, table))
 }
 
 fn rule_listing(listing: &[u8], work: &mut [u8], code: u32, table: u32) -> Ruling
@@ -116,18 +90,7 @@ fn rule_listing(listing: &[u8], work: &mut [u8], code: u32, table: u32) -> Rulin
     requires { ⌜ table ≡ tableOf code ⌝ }
     ensures { λ r. ⌜ r ≡ ruled (packOf (now (listing .entry))) code ⌝ }
 {
-    rule(
-        table_of(listing, 1),
-        table_of(listing, 2),
-        table_of(listing, 3),
-        table_of(listing, 4),
-        table_of(listing, 5),
-        table_of(listing, 6),
-        table_of(listing, 7),
-        work,
-        code,
-        table,
-    )
+    rule(listing::cut(listing), work, code, table)
 }
 
 // Pass, fail with the first row, not testable; or a refusal: 9 before the reader's.

@@ -1,10 +1,18 @@
 // The lookup: the lowest tile row of a contents row's name at an address.
 ghost use mathlib.Core.Path.{_≡_};
+ghost use mathlib.Core.List.{map};
 ghost use Rattle.octets.specs.Numbers.{signed};
 ghost use Rattle.octets.specs.Texts.{spell};
-ghost use Rattle.pack.specs.Tables.{contentsOf, tilesOf};
+ghost use Rattle.pack.specs.Tables.{contentsOf, tilesOf, packIn};
 ghost use Rattle.findings.specs.Answers.{canLook, tileAt, locatedRow, lookedUp, lookupOf};
 use findings::Located;
+use listing::CONTENTS;
+use listing::ContentsTable;
+use listing::NAMES;
+use listing::TABLE_COUNT;
+use listing::TILES;
+use listing::TileTable;
+use listing::slice_of;
 use octets::Name;
 use seek::TileTest;
 
@@ -22,7 +30,7 @@ fn located(k: usize, n: usize) -> Located
 fn can_look(contents: &[u8], names: &[u8], k: usize) -> bool
     ensures { λ r. ⌜ r ≡ canLook (contentsOf (now (contents .entry)) (now (names .entry))) k ⌝ }
 {
-    if k < contents.len() / 40 {
+    if k < contents.len() / (ContentsTable::ROW as usize) {
         let c = pack::contents_at(contents, k);
         return octets::is_name(names, c.data_type, b"tiles");
     }
@@ -32,7 +40,7 @@ fn can_look(contents: &[u8], names: &[u8], k: usize) -> bool
 fn tile_of(tiles: &[u8], names: &[u8], name: Name, zoom: u64, column: u64, row: u64) -> Located
     ensures { λ r. ⌜ r ≡ tileAt (tilesOf (now (tiles .entry)) (now (names .entry))) (spell (now (names .entry)) name) (signed zoom) (signed column) (signed row) ⌝ }
 {
-    let n = tiles.len() / 32;
+    let n = tiles.len() / (TileTable::ROW as usize);
     let test = TileTest::Address {
         name,
         zoom,
@@ -42,20 +50,14 @@ fn tile_of(tiles: &[u8], names: &[u8], name: Name, zoom: u64, column: u64, row: 
     located(seek::first_tile(tiles, names, test, n), n)
 }
 
-fn look(
-    contents: &[u8],
-    tiles: &[u8],
-    names: &[u8],
-    k: usize,
-    zoom: u64,
-    column: u64,
-    row: u64,
-) -> Located
-    ensures { λ r. ⌜ r ≡ lookedUp (contentsOf (now (contents .entry)) (now (names .entry))) (tilesOf (now (tiles .entry)) (now (names .entry))) k (signed zoom) (signed column) (signed row) ⌝ }
+fn look(tables: [&[u8]; TABLE_COUNT], k: usize, zoom: u64, column: u64, row: u64) -> Located
+    ensures { λ r. ⌜ r ≡ lookedUp (packIn (map now (tables .entry))) k (signed zoom) (signed column) (signed row) ⌝ }
 {
+    let contents = slice_of(tables, CONTENTS);
+    let names = slice_of(tables, NAMES);
     if can_look(contents, names, k) {
         let c = pack::contents_at(contents, k);
-        return tile_of(tiles, names, c.name, zoom, column, row);
+        return tile_of(slice_of(tables, TILES), names, c.name, zoom, column, row);
     }
     Located::Refused {
         number: 10,
@@ -72,9 +74,7 @@ pub fn lookup(listing: &[u8], contents_row: usize, zoom: u64, column: u64, row: 
     match outcome {
         listing::Outcome::Refused { number, table, row } => Located::Refused { number, table, row },
         listing::Outcome::Accepted(_) => look(
-            listing::table_of(listing, 2),
-            listing::table_of(listing, 5),
-            listing::table_of(listing, 7),
+            listing::cut(listing),
             contents_row,
             zoom,
             column,

@@ -3,7 +3,7 @@ use Prim.Native.Nat.{ℕ}
 use mathlib.Core.List.{List, [], _∷_}
 use mathlib.Core.Bool.{Bool, cond}
 use lib.Dec.{eqb}
-use lib.ListN.{getD, length}
+use lib.ListN.{getD, length, drop}
 use lib.IntN.{pos, negsuc}
 use Rattle.pack.specs.Rows.{Rows, Pack}
 use Rattle.rules.specs.References.{of101, of111, of112, of113, lacksId}
@@ -22,12 +22,24 @@ codes = 101 ∷ 111 ∷ 112 ∷ 113 ∷ 131 ∷ 151 ∷ 161 ∷ 162 ∷ 171 ∷ 
 abbrev pub tables : List ℕ
 tables = 1 ∷ 1 ∷ 1 ∷ 1 ∷ 2 ∷ 2 ∷ 2 ∷ 2 ∷ 2 ∷ 5 ∷ 4 ∷ 3 ∷ 3 ∷ 2 ∷ 3 ∷ 4 ∷ 4 ∷ 5 ∷ 4 ∷ 4 ∷ 4 ∷ 4 ∷ 4 ∷ 4 ∷ 4 ∷ 4 ∷ 4 ∷ 4 ∷ 5 ∷ 5 ∷ 5 ∷ 5 ∷ 6 ∷ 6 ∷ 6 ∷ 6 ∷ []
 
+-- how many there are
+abbrev pub codeCount : ℕ
+codeCount = 36
+
 -- the code at a place of that table, and its table
 unfoldable pub codeAt : ℕ → ℕ
 codeAt k = getD codes k 0
 
 unfoldable pub tableAt : ℕ → ℕ
 tableAt k = getD tables k 0
+
+-- "each belongs to one table": the table of a code; 0 where it is none of the 36
+abbrev pub seek : List ℕ → List ℕ → ℕ → ℕ
+seek [] ts c = 0
+seek (k ∷ ks) ts c = cond (eqb c k) (getD ts 0 0) (seek ks (drop 1 ts) c)
+
+unfoldable pub tableOf : ℕ → ℕ
+tableOf c = seek codes tables c
 
 -- ---- the rule of a code, of a pack and a row
 abbrev pub rule101 : Pack → ℕ → Judgment

@@ -6,3 +6,4 @@ pub mod Matrices
 pub mod Tiles
 pub mod Extensions
 pub mod Codes
+pub mod CodeLaws

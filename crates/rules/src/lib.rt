@@ -1,9 +1,12 @@
 // The rules: what they are is in specs/; here is what a judgment is, and the constant table of the codes.
 ghost use mathlib.Core.Path.{_≡_};
 ghost use Prim.Native.Nat.{_<_};
-ghost use Rattle.rules.specs.Codes.{codeAt, tableAt};
+ghost use Rattle.rules.specs.Codes.{codeCount, codeAt, tableAt};
 
-// What a rule says of a row: nothing, or a finding with a partner, 4294967295 where there is none.
+// No row: where a finding has no row or no partner, a verdict no row, a lookup no tile.
+pub const NONE: usize = 4294967295;
+
+// What a rule says of a row: nothing, or a finding with its partner or NONE.
 pub enum Judgment {
     Clean,
     Hit(usize),
@@ -93,14 +96,14 @@ const TABLES: [u32; CODE_COUNT] = [
 ];
 
 pub fn code_at(k: usize) -> u32
-    requires { ⌜ k < 36 ⌝ }
+    requires { ⌜ k < codeCount ⌝ }
     ensures { λ r. ⌜ r ≡ codeAt k ⌝ }
 {
     CODES[k]
 }
 
 pub fn table_at(k: usize) -> u32
-    requires { ⌜ k < 36 ⌝ }
+    requires { ⌜ k < codeCount ⌝ }
     ensures { λ r. ⌜ r ≡ tableAt k ⌝ }
 {
     TABLES[k]

@@ -1,13 +1,22 @@
 // A look over a pack before its report: of which codes there is no finding.
 ghost use mathlib.Core.Path.{_≡_};
+ghost use mathlib.Core.List.{map};
 ghost use Prim.Native.Nat.{_/_};
 ghost use lib.ListN.{length};
 ghost use Rattle.pack.specs.Rows.{Pack};
-ghost use Rattle.pack.specs.Tables.{contentsOf, matricesOf, tilesOf, packFrom};
+ghost use Rattle.pack.specs.Tables.{contentsOf, matricesOf, tilesOf, packIn};
 ghost use Rattle.rules.specs.Tiles.{off561, off571};
 ghost use Rattle.survey.specs.Surveys.{seenAfter, stepAt, namedAt, levelAt, placedAt, Quiet, Surveyed, quietTile, quietMatrix, quietBy};
 use index::Kind;
 use judge::Axis;
+use listing::CONTENTS;
+use listing::MATRICES;
+use listing::MatrixTable;
+use listing::NAMES;
+use listing::TABLE_COUNT;
+use listing::TILES;
+use listing::TileTable;
+use listing::slice_of;
 use rules::Judgment;
 
 // Whether a finding was seen, 0 for no: 351 but for its gates, 431, 441, 561, 571.
@@ -38,14 +47,14 @@ fn see(seen: usize, v: Judgment) -> usize
 fn see_steps(matrices: &[u8], names: &[u8], work: &mut [u8]) -> usize
     ensures { λ r. ⌜ Quiet (stepAt (matricesOf (now (matrices .entry)) (now (names .entry)))) (length (now (matrices .entry)) / 64) r ⌝ }
 {
-    let n = matrices.len() / 64;
-    let m = index::shelve(matrices, names, work, Kind::Level);
+    let n = matrices.len() / (MatrixTable::ROW as usize);
+    let heads = index::shelve(matrices, names, work, Kind::Level);
     let mut seen = 0;
     let mut i = 0;
     while i < n {
         let next = i + 1;
         let q = pack::matrix_at(matrices, i);
-        let k = judge::first_step(matrices, names, work, m, q);
+        let k = judge::first_step(matrices, names, work, heads, q);
         let v = judge::partner_of(k, n);
         seen = see(seen, v);
         i = next;
@@ -56,14 +65,14 @@ fn see_steps(matrices: &[u8], names: &[u8], work: &mut [u8]) -> usize
 fn see_names(contents: &[u8], matrices: &[u8], names: &[u8], work: &mut [u8]) -> usize
     ensures { λ r. ⌜ Quiet (namedAt (contentsOf (now (contents .entry)) (now (names .entry))) (matricesOf (now (matrices .entry)) (now (names .entry)))) (length (now (matrices .entry)) / 64) r ⌝ }
 {
-    let n = matrices.len() / 64;
-    let m = index::index_all(contents, names, work, Kind::TilesName);
+    let n = matrices.len() / (MatrixTable::ROW as usize);
+    let heads = index::index_all(contents, names, work, Kind::TilesName);
     let mut seen = 0;
     let mut i = 0;
     while i < n {
         let next = i + 1;
         let q = pack::matrix_at(matrices, i);
-        let v = judge::unless_tiles_name(contents, names, work, m, q.name);
+        let v = judge::unless_tiles_name(contents, names, work, heads, q.name);
         seen = see(seen, v);
         i = next;
     }
@@ -75,8 +84,8 @@ fn see_tiles(matrices: &[u8], tiles: &[u8], names: &[u8], work: &mut [u8]) -> Pl
     ensures { λ r. ⌜ Quiet (placedAt off561 (matricesOf (now (matrices .entry)) (now (names .entry))) (tilesOf (now (tiles .entry)) (now (names .entry)))) (length (now (tiles .entry)) / 32) (r .columns) ⌝ }
     ensures { λ r. ⌜ Quiet (placedAt off571 (matricesOf (now (matrices .entry)) (now (names .entry))) (tilesOf (now (tiles .entry)) (now (names .entry)))) (length (now (tiles .entry)) / 32) (r .rows) ⌝ }
 {
-    let n = tiles.len() / 32;
-    let m = index::index_all(matrices, names, work, Kind::Level);
+    let n = tiles.len() / (TileTable::ROW as usize);
+    let heads = index::index_all(matrices, names, work, Kind::Level);
     let mut levels = 0;
     let mut columns = 0;
     let mut rows = 0;
@@ -84,8 +93,8 @@ fn see_tiles(matrices: &[u8], tiles: &[u8], names: &[u8], work: &mut [u8]) -> Pl
     while i < n {
         let next = i + 1;
         let t = pack::tile_at(tiles, i);
-        let k = index::find_level(matrices, names, work, m, t.name, t.zoom);
-        let u = judge::unless_found(k, matrices.len() / 64);
+        let k = index::find_level(matrices, names, work, heads, t.name, t.zoom);
+        let u = judge::unless_found(k, matrices.len() / (MatrixTable::ROW as usize));
         let v = judge::placed(matrices, names, Axis::X, t, k);
         let w = judge::placed(matrices, names, Axis::Y, t, k);
         levels = see(levels, u);
@@ -101,18 +110,13 @@ fn see_tiles(matrices: &[u8], tiles: &[u8], names: &[u8], work: &mut [u8]) -> Pl
 }
 
 // Looks over the pack.
-pub fn look(
-    references: &[u8],
-    contents: &[u8],
-    sets: &[u8],
-    matrices: &[u8],
-    tiles: &[u8],
-    extensions: &[u8],
-    names: &[u8],
-    work: &mut [u8],
-) -> Survey
-    ensures { λ r. ⌜ Surveyed (packFrom (now (references .entry)) (now (contents .entry)) (now (sets .entry)) (now (matrices .entry)) (now (tiles .entry)) (now (extensions .entry)) (now (names .entry))) r ⌝ }
+pub fn look(tables: [&[u8]; TABLE_COUNT], work: &mut [u8]) -> Survey
+    ensures { λ r. ⌜ Surveyed (packIn (map now (tables .entry))) r ⌝ }
 {
+    let contents = slice_of(tables, CONTENTS);
+    let matrices = slice_of(tables, MATRICES);
+    let tiles = slice_of(tables, TILES);
+    let names = slice_of(tables, NAMES);
     let steps = see_steps(matrices, names, work);
     let named = see_names(contents, matrices, names, work);
     let places = see_tiles(matrices, tiles, names, work);

@@ -1,12 +1,12 @@
 -- `judge::judge_none` meets its contract.
+use mathlib.Core.List.{map}
+use denote.Ref.{now}
+use Rattle.pack.specs.Tables.{packIn}
 use Rattle.judge.proofs.Others.{no-none-code}
 use Rattle.rules.specs.Codes.{judgedNone}
 use borrow.Author.Needs.{needs}
 use Rattle.judge.proofs.judge_none.Statement.{statement}
 use Rattle.judge.proofs.judge_none.Tie as tie
-
-no-code-returns : tie.Need-returns-5
-no-code-returns c = no-none-code _ _ (c .match .rest)
 
 pub judge-none-spec : {M : Type 1} → statement M
 unfolding judgedNone
@@ -16,8 +16,11 @@ judge-none-spec =
     (λ c κs. search needs)
     (λ c κs. search needs)
     (λ c κs. search needs)
-    (λ c. rw (c .before .match .keys1) (c .lacks-id .ensures))
-    (λ c. rw (c .before .match .keys2) (c .lacks-id2 .ensures))
-    (λ c. rw (c .before .match .keys3) (c .lacks-id3 .ensures))
-    (λ c. rw (c .before .match .keys4) (c .none-171 .ensures))
-    (λ c. no-code-returns c))
+    (λ c κs. search needs)
+    (λ c κs. search needs)
+    (λ c κs. search needs)
+    (λ c. let r = c .before .before in simp (c .before .match .keys1, ← r .slice-of2 .ensures, ← r .before .slice-of .ensures) (c .lacks-id .ensures))
+    (λ c. let r = c .before .before in simp (c .before .match .keys2, ← r .slice-of2 .ensures, ← r .before .slice-of .ensures) (c .lacks-id2 .ensures))
+    (λ c. let r = c .before .before in simp (c .before .match .keys3, ← r .slice-of2 .ensures, ← r .before .slice-of .ensures) (c .lacks-id3 .ensures))
+    (λ c. let r = c .before .before .before in simp (c .before .before .match .keys4, ← c .before .slice-of3 .ensures, ← r .slice-of2 .ensures) (c .none-171 .ensures))
+    (λ c. no-none-code (packIn (map now (c .before .before .before .args .tables))) _ (c .match .rest)))

@@ -1,4 +1,4 @@
--- `judge::contents/is_tiles_name` meets its contract.
+-- `judge::contents::is_tiles_name` meets its contract.
 use Rattle.judge.proofs.Laws.{searches}
 use Rattle.rules.specs.Contents.{isTilesName}
 use Rattle.judge.proofs.contents.is_tiles_name.Statement.{statement}

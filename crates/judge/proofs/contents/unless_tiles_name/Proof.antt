@@ -1,4 +1,4 @@
--- `judge::contents/unless_tiles_name` meets its contract.
+-- `judge::contents::unless_tiles_name` meets its contract.
 use borrow.Author.Needs.{needs}
 use Rattle.judge.proofs.contents.unless_tiles_name.Statement.{statement}
 use Rattle.judge.proofs.contents.unless_tiles_name.Tie as tie

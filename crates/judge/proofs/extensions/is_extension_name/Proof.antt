@@ -1,4 +1,4 @@
--- `judge::extensions/is_extension_name` meets its contract.
+-- `judge::extensions::is_extension_name` meets its contract.
 use mathlib.Core.Path.{ap, _∙_}
 use Rattle.spelling.specs.ExtensionNames.{isExtensionName}
 use Rattle.judge.proofs.Laws.{no-name}

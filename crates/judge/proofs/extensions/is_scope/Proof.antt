@@ -1,4 +1,4 @@
--- `judge::extensions/is_scope` meets its contract.
+-- `judge::extensions::is_scope` meets its contract.
 use Rattle.seek.specs.TestLaws.{tests}
 use borrow.Author.Needs.{needs}
 use Rattle.judge.proofs.extensions.is_scope.Statement.{statement}

@@ -1,4 +1,4 @@
--- `judge::judgments/fault_if` meets its contract.
+-- `judge::judgments::fault_if` meets its contract.
 use Rattle.judge.proofs.judgments.fault_if.Statement.{statement}
 use Rattle.judge.proofs.judgments.fault_if.Tie as tie
 

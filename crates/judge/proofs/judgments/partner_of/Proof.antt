@@ -1,4 +1,4 @@
--- `judge::judgments/partner_of` meets its contract.
+-- `judge::judgments::partner_of` meets its contract.
 use borrow.Author.Tests.{lt-ltb, le-ltb}
 use Rattle.rules.specs.Judgments.{partner}
 use Rattle.judge.proofs.judgments.partner_of.Statement.{statement}

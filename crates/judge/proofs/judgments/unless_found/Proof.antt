@@ -1,4 +1,4 @@
--- `judge::judgments/unless_found` meets its contract.
+-- `judge::judgments::unless_found` meets its contract.
 use borrow.Author.Tests.{lt-ltb, le-ltb}
 use Rattle.judge.proofs.judgments.unless_found.Statement.{statement}
 use Rattle.judge.proofs.judgments.unless_found.Tie as tie

@@ -1,4 +1,4 @@
--- `judge::judgments/with_earlier` meets its contract.
+-- `judge::judgments::with_earlier` meets its contract.
 use Rattle.judge.proofs.Laws.{before-row, at-row}
 use borrow.Author.Needs.{needs}
 use Rattle.judge.proofs.judgments.with_earlier.Statement.{statement}

@@ -1,4 +1,4 @@
--- `judge::matrices/does_fit` meets its contract.
+-- `judge::matrices::does_fit` meets its contract.
 use Rattle.pack.specs.Tables.{matrixOf}
 use Rattle.rules.specs.Matrices.{fits451, fits452}
 use borrow.Author.Needs.{needs}

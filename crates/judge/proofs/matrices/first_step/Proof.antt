@@ -1,4 +1,4 @@
--- `judge::matrices/first_step` meets its contract.
+-- `judge::matrices::first_step` meets its contract.
 use Rattle.judge.proofs.Confining.{confines-351}
 use borrow.Author.Needs.{needs}
 use Rattle.judge.proofs.matrices.first_step.Statement.{statement}

@@ -1,4 +1,4 @@
--- `judge::matrices/has_tile` meets its contract.
+-- `judge::matrices::has_tile` meets its contract.
 use Rattle.judge.proofs.Laws.{searches}
 use Rattle.judge.proofs.matrices.has_tile.Statement.{statement}
 use Rattle.judge.proofs.matrices.has_tile.Tie as tie

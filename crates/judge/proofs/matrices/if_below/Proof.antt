@@ -1,4 +1,4 @@
--- `judge::matrices/if_below` meets its contract.
+-- `judge::matrices::if_below` meets its contract.
 use borrow.Author.Needs.{needs}
 use Rattle.judge.proofs.matrices.if_below.Statement.{statement}
 use Rattle.judge.proofs.matrices.if_below.Tie as tie

@@ -1,4 +1,4 @@
--- `judge::matrices/is_free` meets its contract.
+-- `judge::matrices::is_free` meets its contract.
 use Rattle.judge.proofs.Laws.{searches}
 use Rattle.judge.proofs.matrices.is_free.Statement.{statement}
 use Rattle.judge.proofs.matrices.is_free.Tie as tie

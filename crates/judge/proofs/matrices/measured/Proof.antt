@@ -1,4 +1,4 @@
--- `judge::matrices/measured` meets its contract.
+-- `judge::matrices::measured` meets its contract.
 use borrow.Author.Tests.{lt-ltb, le-ltb}
 use Rattle.pack.specs.Tables.{setOf}
 use Rattle.rules.specs.Matrices.{measured}

@@ -1,4 +1,4 @@
--- `judge::matrices/of_measured` meets its contract.
+-- `judge::matrices::of_measured` meets its contract.
 use Rattle.pack.specs.Tables.{matrixOf}
 use borrow.Author.Needs.{needs}
 use Rattle.judge.proofs.matrices.of_measured.Statement.{statement}

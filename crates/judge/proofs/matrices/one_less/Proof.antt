@@ -1,4 +1,4 @@
--- `judge::matrices/one_less` meets its contract.
+-- `judge::matrices::one_less` meets its contract.
 use Rattle.judge.proofs.Confining.{least-below, one-below}
 use borrow.Author.Needs.{needs}
 use Rattle.judge.proofs.matrices.one_less.Statement.{statement}

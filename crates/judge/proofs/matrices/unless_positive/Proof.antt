@@ -1,4 +1,4 @@
--- `judge::matrices/unless_positive` meets its contract.
+-- `judge::matrices::unless_positive` meets its contract.
 use borrow.Author.Needs.{needs}
 use Rattle.judge.proofs.matrices.unless_positive.Statement.{statement}
 use Rattle.judge.proofs.matrices.unless_positive.Tie as tie

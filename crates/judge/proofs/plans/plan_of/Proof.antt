@@ -1,4 +1,4 @@
--- `judge::plans/plan_of` meets its contract.
+-- `judge::plans::plan_of` meets its contract.
 use Rattle.judge.specs.Plans.{planOf}
 use Rattle.judge.proofs.Others.{no-plan}
 use Rattle.judge.proofs.plans.plan_of.Statement.{statement}

@@ -1,4 +1,4 @@
--- `judge::references/is_organization` meets its contract.
+-- `judge::references::is_organization` meets its contract.
 use Rattle.pack.specs.Tables.{referenceOf}
 use borrow.Author.Needs.{needs}
 use Rattle.judge.proofs.references.is_organization.Statement.{statement}

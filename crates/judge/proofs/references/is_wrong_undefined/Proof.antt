@@ -1,4 +1,4 @@
--- `judge::references/is_wrong_undefined` meets its contract.
+-- `judge::references::is_wrong_undefined` meets its contract.
 use Rattle.judge.proofs.Laws.{wrongs}
 use Rattle.pack.specs.Tables.{referenceOf}
 use Rattle.rules.specs.References.{hasId, wrongUndefined}

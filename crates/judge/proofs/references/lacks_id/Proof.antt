@@ -1,4 +1,4 @@
--- `judge::references/lacks_id` meets its contract.
+-- `judge::references::lacks_id` meets its contract.
 use Rattle.judge.proofs.Laws.{searches}
 use Rattle.rules.specs.References.{lacksId}
 use Rattle.judge.proofs.references.lacks_id.Statement.{statement}

@@ -1,4 +1,4 @@
--- `judge::references/of_undefined` meets its contract.
+-- `judge::references::of_undefined` meets its contract.
 use borrow.Author.Needs.{needs}
 use Rattle.judge.proofs.references.of_undefined.Statement.{statement}
 use Rattle.judge.proofs.references.of_undefined.Tie as tie

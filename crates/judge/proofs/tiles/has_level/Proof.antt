@@ -1,4 +1,4 @@
--- `judge::tiles/has_level` meets its contract.
+-- `judge::tiles::has_level` meets its contract.
 use Rattle.judge.proofs.Laws.{searches}
 use Rattle.judge.proofs.tiles.has_level.Statement.{statement}
 use Rattle.judge.proofs.tiles.has_level.Tie as tie

@@ -1,4 +1,4 @@
--- `judge::tiles/is_off` meets its contract.
+-- `judge::tiles::is_off` meets its contract.
 use Rattle.judge.proofs.Laws.{wrongs}
 use Rattle.rules.specs.Tiles.{offGrid}
 use borrow.Author.Needs.{needs}

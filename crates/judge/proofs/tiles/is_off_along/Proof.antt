@@ -1,4 +1,4 @@
--- `judge::tiles/is_off_along` meets its contract.
+-- `judge::tiles::is_off_along` meets its contract.
 use Rattle.pack.specs.Tables.{tileOf, matrixOf}
 use Rattle.rules.specs.Tiles.{off561, off571}
 use borrow.Author.Needs.{needs}

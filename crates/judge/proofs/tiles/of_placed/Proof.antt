@@ -1,4 +1,4 @@
--- `judge::tiles/of_placed` meets its contract.
+-- `judge::tiles::of_placed` meets its contract.
 use Rattle.pack.specs.Tables.{tileOf}
 use borrow.Author.Needs.{needs}
 use Rattle.judge.proofs.tiles.of_placed.Statement.{statement}

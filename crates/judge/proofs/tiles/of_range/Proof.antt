@@ -1,4 +1,4 @@
--- `judge::tiles/of_range` meets its contract.
+-- `judge::tiles::of_range` meets its contract.
 use mathlib.Core.Path.{_∙_}
 use Rattle.pack.specs.Tables.{tileOf}
 use Rattle.rules.specs.Tiles.{of551}
@@ -14,7 +14,7 @@ of-range-spec =
     tie.close
     (tie.spec (λ c κs. (c .before .before .before .before .pre, confines-named _ _ _))
     (λ c κs. (c .before .before .before .before .before .before .pre, confines-most _ _ (c .before .before .before .before .before .before .args .t)))
-    (λ c κs. (c .before .before .before .before .before .before .before .before .pre, confines-least _ _ (c .before .before .before .before .before .before .before .before .args .t)))
+    (λ c κs. let second = c .before .before in let st = second .before .before .before .before .before .before in (st .pre, confines-least _ _ (st .args .t)))
     (λ c κs. search needs)
     (λ c. simp (← c .before .before .before .before .before .has-level .ensures, c .before .before .before .before .if1 .taken, ← c .before .before .before .has-level2 .ensures, c .before .before .if2 .taken, ← c .before .has-level3 .ensures) (c .fault-if .ensures ∙ turned (c .before .has-level3 .result)))
     (λ c κs. search needs)

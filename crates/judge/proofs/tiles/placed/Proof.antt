@@ -1,4 +1,4 @@
--- `judge::tiles/placed` meets its contract.
+-- `judge::tiles::placed` meets its contract.
 use borrow.Author.Tests.{lt-ltb, le-ltb}
 use Rattle.rules.specs.Tiles.{placed}
 use borrow.Author.Needs.{needs}

@@ -1,6 +1,8 @@
--- `report::rulings/rule` meets its contract.
+-- `report::rulings::rule` meets its contract.
 use native.Mathlib.Omega.{arith}
-use Rattle.pack.specs.Tables.{packFrom}
+use mathlib.Core.List.{map}
+use denote.Ref.{now}
+use Rattle.pack.specs.Tables.{packIn}
 use Rattle.report.specs.PromiseLaws.{rule-fail, rule-clean}
 use borrow.Author.Needs.{needs}
 use Rattle.report.proofs.rulings.rule.Statement.{statement}
@@ -11,10 +13,12 @@ rule-spec =
     tie.close
     (tie.spec (λ c. search needs)
     (λ c κs. search needs)
-    (λ c κs. let st = c .before .before .before .before .before .before .before .before .before .before .before in let a = st .args in (c .unknown .ensures (packFrom (a .references .now) (a .contents .now) (a .sets .now) (a .matrices .now) (a .tiles .now) (a .extensions .now) (a .names .now)), (st .pre .0, omega arith)))
+    (λ c κs. let st = c .before .before .before .before in (c .unknown .ensures (packIn (map now (st .args .tables))), (st .pre .0, (st .pre .1, omega arith))))
     (λ c. search needs)
     (λ c. search (rule-fail, needs))
     (λ c κs. search needs)
     (λ c κs. search needs)
     (λ c. search needs)
-    (λ c. search (rule-clean, c .before .before .before .before .before .before .before .before .before .before .before .before .before .before .before .before .before .before .before .pre .1, needs)))
+    (λ c.
+    let st = c .before .before .before .before .before .before .before in
+    search (rule-clean, st .before .before .before .before .before .pre .1, needs)))

@@ -8,12 +8,6 @@ pub rule-listing-spec : {M : Type 1} → statement M
 rule-listing-spec =
     tie.close
     (tie.spec (λ c κs. search needs)
-    (λ c κs. search needs)
-    (λ c κs. search needs)
-    (λ c κs. search needs)
-    (λ c κs. search needs)
-    (λ c κs. search needs)
-    (λ c κs. search needs)
     (λ c κs. search (cut-numbered, needs))
     (λ c. search needs)
     (λ c. search (cut-ruled, needs)))

@@ -11,7 +11,9 @@ pub can-look-spec : {M : Type 1} → statement M
 unfolding canLook ofType contentOf
 can-look-spec =
     tie.close
-    (tie.spec (λ c κs. search needs)
+    (tie.spec (λ c. search needs)
+    (λ c. search needs)
+    (λ c κs. search needs)
     (λ c. search needs)
     (λ c κs. search needs)
     (λ c. row-yes _ _ _ _ (c .before .before .before .if1 .taken) (rw (c .before .before .contents-at .ensures) at (c .is-name .ensures)))

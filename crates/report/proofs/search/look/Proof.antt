@@ -1,4 +1,5 @@
 -- `report::search::look` meets its contract.
+use mathlib.Core.Path.{refl}
 use Rattle.report.proofs.Looking.{when-yes, when-no}
 use Rattle.pack.specs.Tables.{contentOf}
 use Rattle.findings.specs.Answers.{lookedUp}
@@ -13,5 +14,13 @@ look-spec =
     (tie.spec (λ c κs. search needs)
     (λ c κs. search needs)
     (λ c κs. search needs)
-    (λ c. when-yes _ _ _ _ _ (c .before .before .before .can-look .ensures) (c .before .before .if1 .taken) (rw (c .before .contents-at .ensures) at (c .tile-of .ensures)))
-    (λ c. search (when-no, needs)))
+    (λ c κs. search needs)
+    (λ c κs. search needs)
+    (λ c κs. search needs)
+    (λ c.
+    let asked = c .before .before .before .before in
+    rw (← asked .before .before .slice-of .ensures, ← asked .before .slice-of2 .ensures, ← c .before .slice-of3 .ensures)
+    (when-yes _ _ _ _ _ (asked .can-look .ensures) (c .before .before .before .if1 .taken) (rw (c .before .before .contents-at .ensures) at (c .tile-of .ensures))))
+    (λ c.
+    let asked = c .before in
+    rw (← asked .before .before .slice-of .ensures, ← asked .before .slice-of2 .ensures) (when-no _ _ _ _ _ (asked .can-look .ensures) (c .if1 .left) refl)))

@@ -12,7 +12,5 @@ lookup-spec =
     (λ c. search needs)
     (λ c κs. search needs)
     (λ c κs. search needs)
-    (λ c κs. search needs)
-    (λ c κs. search needs)
     (λ c. search (lookup-done, lookup-refused, needs))
     (λ c. search (lookup-done, lookup-refused, needs)))

@@ -9,6 +9,8 @@ pub tile-of-spec : {M : Type 1} → statement M
 unfolding tileAt
 tile-of-spec =
     tie.close
-    (tie.spec (λ c κs. search needs)
+    (tie.spec (λ c. search needs)
+    (λ c. search needs)
+    (λ c κs. search needs)
     (λ c κs. search needs)
     (λ c. rw (c .before .first-tile .ensures) at (c .located .ensures)))

@@ -13,17 +13,19 @@ use Rattle.report.proofs.tiles.add_541.Statement.{statement}
 use Rattle.report.proofs.tiles.add_541.Tie as tie
 
 abbrev Inv-loop : tie.InvT-loop
-Inv-loop tiles names out₀ work₀ n m tally₀ i₀ out work tally i =
-    Walking (at541 (tilesOf tiles names)) out₀ tally₀ n i out tally × Indexes Address tiles names work m i × (length work ≡ length work₀)
+Inv-loop tiles names out₀ work₀ n heads tally₀ i₀ out work tally i =
+    Walking (at541 (tilesOf tiles names)) out₀ tally₀ n i out tally × Indexes Address tiles names work heads i × (length work ≡ length work₀)
 
 abbrev μ-loop : tie.MeasureT-loop
-μ-loop tiles names out₀ work₀ n m tally₀ i₀ out work tally i = n - i
+μ-loop tiles names out₀ work₀ n heads tally₀ i₀ out work tally i = n - i
 
 pub add-541-spec : {M : Type 1} → statement M
 add-541-spec =
     tie.close
     (tie.spec Inv-loop
     μ-loop
+    (λ c. search needs)
+    (λ c. search needs)
     (λ c κs. search needs)
     (λ c. (search (walk-start, needs), search (keyed-start, needs), search needs))
     (λ c. search needs)

@@ -1,10 +1,15 @@
--- `report::walk/add_all` meets its contract.
-use mathlib.Core.Path.{_≡_, refl, _∙_}
+-- `report::walk::add_all` meets its contract.
 use Prim.Native.Nat.{_≤_, _-_}
+use mathlib.Core.Path.{_≡_, refl, sym, ap, _∙_}
+use mathlib.Core.List.{map}
+use denote.Ref.{now}
 use native.Mathlib.Omega.{arith}
 use lib.ListN.{length}
 use Rattle.octets.specs.Gather.{gather}
-use Rattle.pack.specs.Tables.{packFrom}
+use Rattle.pack.specs.Tables.{packIn}
+use Rattle.rules.specs.Judgments.{none}
+use Rattle.rules.specs.Codes.{codeCount, tableOf}
+use Rattle.rules.specs.CodeLaws.{place-table}
 use Rattle.findings.specs.Findings.{ofPlace, findings}
 use Rattle.findings.specs.FindingLaws.{places-length}
 use Rattle.report.specs.Buffers.{Added, noTally}
@@ -14,11 +19,11 @@ use Rattle.report.proofs.walk.add_all.Statement.{statement}
 use Rattle.report.proofs.walk.add_all.Tie as tie
 
 abbrev Inv-loop : tie.InvT-loop
-Inv-loop references contents sets matrices tiles extensions names out₀ work₀ s tally₀ k₀ out work tally k =
-    (k ≤ 36) × Added (gather k (ofPlace (packFrom references contents sets matrices tiles extensions names))) out₀ noTally out tally × (length out ≡ length out₀) × (length work ≡ length work₀)
+Inv-loop tables out₀ work₀ s tally₀ k₀ out work tally k =
+    (k ≤ codeCount) × Added (gather k (ofPlace (packIn (map now tables)))) out₀ noTally out tally × (length out ≡ length out₀) × (length work ≡ length work₀)
 
 abbrev μ-loop : tie.MeasureT-loop
-μ-loop references contents sets matrices tiles extensions names out₀ work₀ s tally₀ k₀ out work tally k = 36 - k
+μ-loop tables out₀ work₀ s tally₀ k₀ out work tally k = codeCount - k
 
 pub add-all-spec : {M : Type 1} → statement M
 unfolding ofPlace findings
@@ -32,23 +37,32 @@ add-all-spec =
     (λ c κs. search needs)
     (λ c κs.
     let l = c .before .before .before .before .before in
-    let st = c .before .before .before .before .before .before .before .before .before .before .before .before .before .before .before .before .before .before .before in
-    let a = st .args in
-    (c .before .before .before .before .before .before .before .before .look .ensures, (st .pre, omega (arith, l .loop .inv .1 .count, places-length (packFrom (a .references .now) (a .contents .now) (a .sets .now) (a .matrices .now) (a .tiles .now) (a .extensions .now) (a .names .now)) 4294967295 (l .loop .k) (st .pre)))))
+    let seen = l .before .before .before .look in
+    let st = l .before .before .before .before .before .before .before in
+    let k = l .loop .k in (
+      seen .ensures,
+      (
+        st .pre,
+        (
+          c .table-at .ensures ∙ sym (place-table k (omega arith)) ∙ ap tableOf (sym (c .before .code-at .ensures)),
+          omega (arith, l .loop .inv .1 .count, places-length (packIn (map now (st .args .tables))) none k (st .pre)),
+        ),
+      ),
+    ))
     (λ c. search needs)
     (λ c. search needs)
     (λ c.
     let r = c .before .before .before .before in
-    let l = c .before .before .before .before .before .before .before .before .before .before in
-    let a = c .before .before .before .before .before .before .before .before .before .before .before .before .before .before .before .before .before .before .before .before .before .before .before .before .args in (
+    let l = r .before .before .before .before .before .before in
+    let a = l .before .before .before .before .before .before .before .args in (
       search needs,
-      added-more (l .loop .k) (ofPlace (packFrom (a .references .now) (a .contents .now) (a .sets .now) (a .matrices .now) (a .tiles .now) (a .extensions .now) (a .names .now))) (l .loop .inv .1) (rw (c .before .before .before .before .before .before .code-at .ensures, c .before .before .before .before .before .table-at .ensures) at (r .add-code .ensures)),
-      r .add-code .kept .1 .1 .1 .1 .1 .1 .1 .0 ∙ l .loop .inv .2,
-      r .add-code .kept .1 .1 .1 .1 .1 .1 .1 .1 .0 ∙ l .loop .inv .3,
+      added-more (l .loop .k) (ofPlace (packIn (map now (a .tables)))) (l .loop .inv .1) (rw (r .before .before .code-at .ensures, r .before .table-at .ensures) at (r .add-code .ensures)),
+      r .add-code .kept .1 .0 ∙ l .loop .inv .2,
+      r .add-code .kept .1 .1 .0 ∙ l .loop .inv .3,
     ))
     (λ c. search needs)
-    (λ c. c .before .loop .inv .3 ∙ c .before .before .before .before .look .kept .1 .1 .1 .1 .1 .1 .1 .0)
+    (λ c. c .before .loop .inv .3 ∙ c .before .before .before .before .look .kept .1 .0)
     (λ c.
     let l = c .before in
-    let e : l .loop .k ≡ 36 = omega arith in
+    let e : l .loop .k ≡ codeCount = omega arith in
     rw e at (l .loop .inv .1)))

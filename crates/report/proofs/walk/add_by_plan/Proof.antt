@@ -1,6 +1,10 @@
--- `report::walk/add_by_plan` meets its contract.
+-- `report::walk::add_by_plan` meets its contract.
+use Prim.Native.Nat.{_≤_}
+use mathlib.Core.List.{map}
+use denote.Ref.{now}
 use native.Mathlib.Omega.{arith}
-use Rattle.judge.specs.Plans.{planOf, First, Second}
+use lib.ListN.{length}
+use Rattle.judge.specs.Plans.{planOf, Prepared, PreparedMore}
 use Rattle.report.proofs.Parts.{parts-within, parts-first, parts-second}
 use borrow.Author.Needs.{needs}
 use Rattle.report.proofs.walk.add_by_plan.Statement.{statement}
@@ -19,19 +23,22 @@ add-by-plan-spec =
     (λ c. search needs)
     (λ c κs. search needs)
     (λ c κs.
-    let a = c .before .before .before .before .before .before .before .before .before .before .before .before .before .before .before .before .before .before .before .before .args in
-    let half = c .before .before .before .before .before .before .before .before .before .before .least in
-    let first = c .before .before .before .before .before .before .before .before .prepare in
-    let second = c .before .before .before .before .prepare-more in
-    let p = first .last .1 .1 .1 .1 .0 in
-    let q = second .last .1 .1 .1 .0 in
-    let e = first .kept .1 .1 .1 .1 .0 in (
-      parts-within (half .result) (a .work .now) p q (omega (arith, half .ensures)) e,
+    let second = c .before .before .before .before in
+    let first = second .before .before .before .before in
+    let part = first .before .before .least in
+    let st = first .before .before .before .before .before in
+    let a = st .args in
+    let ts = map now (a .tables) in
+    let p = first .prepare .last .1 .0 in
+    let q = second .prepare-more .last .1 .0 in
+    let e = first .prepare .kept .1 .0 in
+    let l : part .result ≤ length (a .work .now) = omega (arith, part .ensures) in (
+      parts-within (part .result) (a .work .now) p q l e,
       (
-        parts-first (half .result) (a .work .now) p q (omega (arith, half .ensures)) e (λ w. First (planOf (a .code)) (a .contents .now) (a .sets .now) (a .matrices .now) (a .names .now) w (first .result)) (first .ensures),
+        st .pre .0,
         (
-          parts-second (half .result) (a .work .now) p q (omega (arith, half .ensures)) e (λ w. Second (planOf (a .code)) (a .matrices .now) (a .tiles .now) (a .names .now) w (second .result)) (second .ensures),
-          c .before .before .before .before .before .before .before .before .before .before .before .before .before .before .before .before .before .before .before .before .pre,
+          parts-first (part .result) (a .work .now) p q l e (λ w. Prepared (planOf (a .code)) ts w (first .prepare .result)) (first .prepare .ensures),
+          (parts-second (part .result) (a .work .now) p q l e (λ w. PreparedMore (planOf (a .code)) ts w (second .prepare-more .result)) (second .prepare-more .ensures), st .pre .1),
         ),
       ),
     ))

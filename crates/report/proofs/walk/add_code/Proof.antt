@@ -1,6 +1,8 @@
 -- `report::walk::add_code` meets its contract.
 use native.Mathlib.Omega.{arith}
-use Rattle.pack.specs.Tables.{packFrom}
+use mathlib.Core.List.{map}
+use denote.Ref.{now}
+use Rattle.pack.specs.Tables.{packIn}
 use Rattle.findings.specs.Findings.{atNone, ofCode}
 use Rattle.findings.specs.FindingLaws.{rows-length}
 use Rattle.report.specs.BufferLaws.{added-append}
@@ -15,15 +17,17 @@ add-code-spec =
     (tie.spec (λ c κs. search needs)
     (λ c κs.
     let r = c .before .before in
-    let st = r .before .before .before .before .before .before .before .before .before .before in
-    (st .pre .0, (r .rows-in .ensures, omega (arith, r .rows-in .ensures, st .pre .1 .0 (st .args .table), st .pre .1 .1))))
+    let st = r .before .before .before in
+    let pre = st .pre .1 in
+    (st .pre .0, (pre .1 .0, (r .rows-in .ensures, omega (arith, r .rows-in .ensures, pre .0 (st .args .table), pre .1 .1)))))
     (λ c κs. search needs)
     (λ c κs.
     let q = c .before .before .before .before .before .before in
     let r = q .before .before .before in
-    let st = r .before .before .before .before .before .before .before .before .before .before in
+    let st = r .before .before .before in
     let a = st .args in
-    omega (arith, q .add-table-rows .ensures .count, rows-length (packFrom (a .references .now) (a .contents .now) (a .sets .now) (a .matrices .now) (a .tiles .now) (a .extensions .now) (a .names .now)) (a .code) (r .rows-in .result), r .rows-in .ensures, st .pre .1 .0 (a .table), st .pre .1 .1))
+    let pre = st .pre .1 in
+    omega (arith, q .add-table-rows .ensures .count, rows-length (packIn (map now (a .tables))) (a .code) (r .rows-in .result), r .rows-in .ensures, pre .0 (a .table), pre .1 .1))
     (λ c. search needs)
     (λ c. search needs)
     (λ c.

@@ -1,6 +1,8 @@
--- `report::walk/add_rows` meets its contract.
+-- `report::walk::add_rows` meets its contract.
 use Prim.Native.Nat.{_-_}
-use Rattle.pack.specs.Tables.{packFrom}
+use mathlib.Core.List.{map}
+use denote.Ref.{now}
+use Rattle.pack.specs.Tables.{packIn}
 use Rattle.findings.specs.Findings.{atRow}
 use Rattle.report.specs.WalkLaws.{Walking, walk-start, walk-room, walk-end, more-row}
 use borrow.Author.Needs.{needs}
@@ -8,11 +10,11 @@ use Rattle.report.proofs.walk.add_rows.Statement.{statement}
 use Rattle.report.proofs.walk.add_rows.Tie as tie
 
 abbrev Inv-loop : tie.InvT-loop
-Inv-loop references contents sets matrices tiles extensions names work m more l out₀ code n tally₀ i₀ out tally i =
-    Walking (atRow (packFrom references contents sets matrices tiles extensions names) code) out₀ tally₀ n i out tally
+Inv-loop tables work heads moreWork moreHeads out₀ code table n tally₀ i₀ out tally i =
+    Walking (atRow (packIn (map now tables)) code) out₀ tally₀ n i out tally
 
 abbrev μ-loop : tie.MeasureT-loop
-μ-loop references contents sets matrices tiles extensions names work m more l out₀ code n tally₀ i₀ out tally i = n - i
+μ-loop tables work heads moreWork moreHeads out₀ code table n tally₀ i₀ out tally i = n - i
 
 pub add-rows-spec : {M : Type 1} → statement M
 add-rows-spec =

@@ -1,5 +1,8 @@
--- `report::walk/add_table_rows` meets its contract.
-use Rattle.pack.specs.Tables.{packFrom}
+-- `report::walk::add_table_rows` meets its contract.
+use mathlib.Core.List.{map}
+use denote.Ref.{now}
+use Rattle.pack.specs.Tables.{packIn}
+use Rattle.report.specs.Walks.{at541}
 use Rattle.report.specs.WalkLaws.{as-541, quiet-added}
 use Rattle.report.proofs.Walking.{tile-room, tile-added}
 use borrow.Author.Needs.{needs}
@@ -11,16 +14,29 @@ add-table-rows-spec =
     tie.close
     (tie.spec (λ c κs. search needs)
     (λ c.
-    let st = c .before .before .before .before .before .before .before .before .before .before .before in
+    let st = c .before .before .before .before in
     let a = st .args in
-    quiet-added (packFrom (a .references .now) (a .contents .now) (a .sets .now) (a .matrices .now) (a .tiles .now) (a .extensions .now) (a .names .now)) (a .s) (a .code) (a .table) (a .n) _ _ _ (st .pre .0) (st .pre .1 .0) (c .before .is-quiet .ensures) (c .if1 .taken))
+    quiet-added (packIn (map now (a .tables))) (a .s) (a .code) (a .table) (a .n) _ _ _ (st .pre .0) (st .pre .1 .1 .0) (c .before .is-quiet .ensures) (c .if1 .taken))
+    (λ c κs. search needs)
+    (λ c κs. search needs)
     (λ c κs.
-    let st = c .before .before .before .before .before .before .before .before .before .before .before .before .before .before .before in
+    let names = c .before .before in
+    let five = names .before .before in
+    let st = five .before .before .before .before .before .before in
     let a = st .args in
-    tile-room (packFrom (a .references .now) (a .contents .now) (a .sets .now) (a .matrices .now) (a .tiles .now) (a .extensions .now) (a .names .now)) (a .table) (a .n) (c .before .before .if3 .taken) (st .pre .1 .0) (a .t .total) (st .pre .1 .1))
+    rw (names .before .slice-of .ensures) (tile-room (packIn (map now (a .tables))) (a .table) (a .n) (five .if3 .taken) (st .pre .1 .1 .0) (a .t .total) (st .pre .1 .1 .1)))
     (λ c. search needs)
     (λ c. search needs)
-    (λ c. search (tile-added, as-541, needs))
+    (λ c.
+    let added = c .before .before .before .before in
+    let names = added .before .before .before in
+    let five = names .before .before in
+    let st = five .before .before .before .before .before .before in
+    let a = st .args in
+    let p = packIn (map now (a .tables)) in
+    as-541 p (a .n) (a .code) _ _ _ _ (five .before .if2 .taken)
+    (tile-added p (a .table) (a .n) (five .if3 .taken) (st .pre .1 .1 .0) (at541 (p .tiles)) _ _ _ _
+    (rw (names .before .slice-of .ensures, names .slice-of2 .ensures) at (added .add-541 .ensures))))
     (λ c κs. search needs)
     (λ c. search needs)
     (λ c. search needs)

@@ -23,7 +23,7 @@ static uint8_t ordinary[ORDINARY];
 
 static int failed(const char *words)
 {
-    fprintf(stderr, "judge: %s\n", words);
+    fprintf(stderr, "call-library: %s\n", words);
     return FAILED;
 }
 
@@ -45,7 +45,7 @@ static void print_findings(const uint8_t *findings, uint32_t written)
     }
 }
 
-static int judge(size_t size)
+static int print_report(size_t size)
 {
     uint8_t answer[DESTERLIN_REPORT_ANSWER];
     uint8_t *findings = ordinary;
@@ -53,7 +53,8 @@ static int judge(size_t size)
     uint32_t number = desterlin_word(answer, DESTERLIN_REPORT_NUMBER);
     if (number != DESTERLIN_ACCEPTED) {
         printf("refused %" PRIu32 " %" PRIu32 " %" PRIu32 "\n", number,
-               desterlin_word(answer, DESTERLIN_REPORT_TABLE), desterlin_word(answer, DESTERLIN_REPORT_ROW));
+               desterlin_word(answer, DESTERLIN_REPORT_REFUSED_TABLE),
+               desterlin_word(answer, DESTERLIN_REPORT_REFUSED_ROW));
         return JUDGED;
     }
     uint32_t total = desterlin_word(answer, DESTERLIN_REPORT_TOTAL);
@@ -76,7 +77,7 @@ int main(void)
     size_t size = fread(listing, 1, sizeof listing, stdin);
     if (ferror(stdin))
         return failed("the listing cannot be read");
-    int status = judge(size);
+    int status = print_report(size);
     if (fflush(stdout) != 0 || ferror(stdout))
         return failed("the findings cannot be written");
     return status;
