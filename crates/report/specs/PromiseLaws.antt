@@ -19,7 +19,8 @@ use Rattle.pack.specs.PackLaws.{rows-numbered}
 use Rattle.rules.specs.Codes.{tableOf as tableOfCode}
 use Rattle.rules.specs.Judgments.{none}
 use Rattle.findings.specs.Findings.{Finding, ofCode, findings}
-use Rattle.findings.specs.Answers.{reported, failOr, alwaysTestable, withoutFinding, ruled, verdictOf, isRefused}
+use Rattle.findings.specs.Answers.{reported, failOr, withoutFinding, ruled, verdictOf, isRefused}
+use Rattle.findings.specs.RulingLaws.{kind, ruled-kind}
 use Rattle.findings.specs.OrderLaws.{Numbered}
 use Rattle.findings.specs.Words.{findingOctets, room, writtenOf, bufferOf}
 use Rattle.findings.specs.declared.Ruling.{Ruling}
@@ -118,15 +119,14 @@ pub accepted-by : (s : List ℕ) (o : Outcome) (l : Layout) → o ≡ outcome s 
 accepted-by s o l e f = ap isAccepted (sym e ∙ f)
 
 -- ---- the verdict
-never-refused : (fs : List Finding) (n : Bool) (d : Bool) → isRefused (failOr fs (cond n (cond d Pass NotTestable) Pass)) ≡ false
-never-refused (f ∷ fs) n d = refl
-never-refused [] true true = refl
-never-refused [] true false = refl
-never-refused [] false d = refl
-
 ruled-stands : (p : Pack) (c : ℕ) → isRefused (ruled p c) ≡ false
-unfolding ruled withoutFinding
-ruled-stands p c = never-refused (ofCode p c (tableOfCode c)) (eqb (rowsIn p (tableOfCode c)) 0) (alwaysTestable c)
+ruled-stands p c = by (ruled p c) (ruled-kind p c)
+  where
+    by : (v : Ruling) → kind v ≤ 2 → isRefused v ≡ false
+    by Pass h = refl
+    by (Fail i) h = refl
+    by NotTestable h = refl
+    by (ruling.Refused n t r) h = absurd (omega arith)
 
 module _ (s : List ℕ) (c t : ℕ) (w : List ℕ) (e : t ≡ tableOfCode c) where
   pub verdict-unlisted : t ≡ 0 → VerdictOf s c w (ruling.Refused 9 0 0) w
