@@ -88,7 +88,8 @@ fn full_sizes_are_as_they_say() {
         assert_eq!(tiles, Ok(3_000), "{kind}");
     }
     assert!(full("nothing", 1).is_none());
-    for kind in ["sorted", "shuffled", "reversed", "layers", "own-place"] {
+    let clean = ["sorted", "shuffled", "reversed", "layers", "long-names", "folded", "own-place"];
+    for kind in clean {
         let findings = full(kind, 3_000).map(|listing| report(&listing));
         assert_eq!(findings, Some(Ok(vec![])), "{kind}");
     }

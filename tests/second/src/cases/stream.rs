@@ -45,7 +45,7 @@ pub fn write_seeds(out: impl Write, first: u64, count: u64) -> Result<()> {
 }
 
 /// The most tiles of a full listing here: the index works at this size as it
-/// does at the limit, and all nine kinds take a quarter of the time.
+/// does at the limit, and all the kinds take a quarter of the time.
 const TILES_OF_A_FULL_LISTING: usize = 32_768;
 
 /// The listings at the limits and the full ones, with their calls, as far as

@@ -4,7 +4,7 @@ use super::Random;
 use crate::make::{Draft, MatrixRow, Span, TileRow};
 
 /// The kinds that [`full`] makes.
-pub const FULL_KINDS: [&str; 9] = [
+pub const FULL_KINDS: [&str; 11] = [
     "sorted",
     "shuffled",
     "pyramids",
@@ -12,6 +12,8 @@ pub const FULL_KINDS: [&str; 9] = [
     "one-address",
     "own-place",
     "layers",
+    "long-names",
+    "folded",
     "one-name",
     "no-contents",
 ];
@@ -26,16 +28,21 @@ const MOMENT: &str = "2024-02-29T00:00:00.000Z";
 /// * `one-address`: all tiles at one address;
 /// * `own-place`: 16 layers, and each tile has its name at a place of its own;
 /// * `layers`: 256 layers, the same address in each layer before the next;
+/// * `long-names`: as `layers`, with names of 39 octets that differ inside;
+/// * `folded`: 32,768 columns 2^32 - 31 apart, in one row after the other;
 /// * `one-name`: 4,096 matrices of one name, each finer than the one before;
 /// * `no-contents`: as `sorted`, without contents.
 pub fn full(kind: &str, tiles: usize) -> Option<Vec<u8>> {
     let mut random = Random::new(tiles as u64);
     let mut draft = match kind {
-        "sorted" | "shuffled" | "reversed" | "no-contents" => layered(256, 16, tiles),
-        "pyramids" => layered(3, 12, tiles.div_ceil(2)),
+        "sorted" | "shuffled" | "reversed" | "layers" | "no-contents" => {
+            layered(256, 16, tiles, short_name)
+        }
+        "long-names" => layered(256, 16, tiles, long_name),
+        "pyramids" => layered(3, 12, tiles.div_ceil(2), short_name),
         "one-address" => one_address(tiles),
         "own-place" => own_place(tiles),
-        "layers" => layered(256, 16, tiles),
+        "folded" => folded(tiles),
         "one-name" => one_name(tiles),
         _ => return None,
     };
@@ -44,7 +51,7 @@ pub fn full(kind: &str, tiles: usize) -> Option<Vec<u8>> {
         "reversed" => draft.tiles.reverse(),
         "no-contents" => draft.contents.clear(),
         // A stable sort: within an address the layers keep their order.
-        "layers" => draft.tiles.sort_by_key(|t| (t.zoom, t.row, t.column)),
+        "layers" | "long-names" => draft.tiles.sort_by_key(|t| (t.zoom, t.row, t.column)),
         "pyramids" => {
             draft.tiles.extend_from_within(..tiles / 2);
             random.shuffle(&mut draft.tiles);
@@ -94,12 +101,22 @@ fn tile(table_name: Span, number: usize) -> TileRow {
     TileRow { table_name, zoom, column, row }
 }
 
+fn short_name(layer: usize) -> String {
+    format!("layer_{layer:03}_tiles")
+}
+
+/// Names that differ neither in their first, nor their middle, nor their last
+/// eight octets.
+fn long_name(layer: usize) -> String {
+    format!("orthophoto_{layer:04}_region_north_2019_final")
+}
+
 /// So many layers, the tiles shared out evenly among them.
-fn layered(layers: usize, levels: u32, tiles: usize) -> Draft {
+fn layered(layers: usize, levels: u32, tiles: usize, name_of: fn(usize) -> String) -> Draft {
     let mut draft = start();
     let mut left = tiles;
     for layer in 0..layers {
-        let name = add_layer(&mut draft, &format!("layer_{layer:03}_tiles"), levels);
+        let name = add_layer(&mut draft, &name_of(layer), levels);
         let share = left.div_ceil(layers - layer);
         draft.tiles.extend((0..share).map(|number| tile(name, number)));
         left -= share;
@@ -124,6 +141,30 @@ fn own_place(tiles: usize) -> Draft {
     for number in 0..tiles {
         let name = draft.text_apart(name_of(number % 16));
         draft.tiles.push(tile(name, number / 16));
+    }
+    draft
+}
+
+/// One level of 2^48 by 2^48 tiles. All its columns have one sum of the lower
+/// half and 31 times the upper: whoever hashes a number so has one long chain.
+fn folded(tiles: usize) -> Draft {
+    let mut draft = start();
+    let name = add_layer(&mut draft, "layer", 0);
+    let (side, pixels, size) = (1 << 48, 32, 1.0 / f64::from(1 << 25));
+    draft.matrices.push(MatrixRow {
+        table_name: name,
+        zoom: 0,
+        matrix_width: side,
+        matrix_height: side,
+        tile_width: pixels,
+        tile_height: pixels,
+        pixel_x_size: size,
+        pixel_y_size: size,
+    });
+    let step = (1 << 32) - 31;
+    for number in 0..tiles as i64 {
+        let (column, row) = ((1 << 20) + number % 32_768 * step, number / 32_768);
+        draft.tiles.push(TileRow { table_name: name, zoom: 0, column, row });
     }
     draft
 }
