@@ -1,17 +1,20 @@
-// The mix of a key, from which its place among the heads of an index and its print are taken. Every field has a multiplier of its own, and upper halves are folded in.
+// The mix of a key, from which its place among the heads of an index and its print are taken. Each half of a number has a multiplier of its own.
 ghost use mathlib.Core.Path.{_≡_};
-ghost use Prim.Native.Nat.{_<_};
-ghost use lib.ListN.{getD};
+ghost use Prim.Native.Nat.{_+_, _*_, _/_, _%_, _<_, _≤_};
+ghost use lib.ListN.{getD, length};
 ghost use Rattle.octets.specs.Numbers.{signed};
 ghost use Rattle.octets.specs.Texts.{spell};
-ghost use Rattle.index.specs.Hashes.{folded, sumOf, nameMix, stirred, keyMix};
+ghost use Rattle.index.specs.Hashes.{joined, sumOf, wordsOnto, wordCount, wordsMix, nameMix, stirred, keyMix};
 ghost use Rattle.index.specs.Keys.{meaning};
 use crate::Key;
 use octets::Name;
 
+// How many numbers half a pattern can be.
+const HALF: u64 = 4294967296;
+
 // The octet at any place, 0 past the end.
 fn octet_at(s: &[u8], at: usize) -> u64
-    ensures { λ r. ⌜ r ≡ getD (now (s .entry)) at 0 ⌝ }
+    ensures { λ r. ⌜ (r ≡ getD (now (s .entry)) at 0) × (r < 256) ⌝ }
 {
     if at < s.len() {
         return s[at] as u64;
@@ -19,46 +22,98 @@ fn octet_at(s: &[u8], at: usize) -> u64
     0
 }
 
-fn fold(x: u64) -> u64
-    ensures { λ r. ⌜ (r ≡ folded x) × (r < 137438953472) ⌝ }
+// The lower half of a pattern, and the upper one.
+fn low(x: u64) -> u64
+    ensures { λ r. ⌜ (r ≡ x % 4294967296) × (r < 4294967296) ⌝ }
 {
-    x % 4294967296 + x / 4294967296 * 31
+    x % HALF
+}
+
+fn high(x: u64) -> u64
+    ensures { λ r. ⌜ (r ≡ x / 4294967296) × (r < 4294967296) ⌝ }
+{
+    x / HALF
+}
+
+// A pattern put to what is mixed already.
+fn join(h: u64, x: u64) -> u64
+    ensures { λ r. ⌜ r ≡ joined h x ⌝ }
+{
+    low(h) * 894509717 + high(h) * 703824437 + low(x) * 1008766067 + high(x) * 605869969
 }
 
 fn sum(a: u64, b: u64, c: u64, d: u64) -> u64
-    ensures { λ r. ⌜ r ≡ sumOf a b c d ⌝ }
+    ensures { λ r. ⌜ (r ≡ sumOf a b c d) × (r < 9223372036854775808) ⌝ }
 {
-    fold(a) * 30074027 + fold(b) * 27094741 + fold(c) * 20888029 + fold(d) * 23422549
+    low(a) * 155374529
+        + high(a) * 140073361
+        + low(b) * 204820423
+        + high(b) * 165907793
+        + low(c) * 140425823
+        + high(c) * 192246287
+        + low(d) * 166166797
+        + high(d) * 266558269
+}
+
+fn stir(x: u64) -> u64
+    requires { ⌜ x < 9223372036854775808 ⌝ }
+    ensures { λ r. ⌜ (r ≡ stirred x) × (r < 4294967296) ⌝ }
+{
+    low(x) * (high(x) + 2147483648) / 65536 % HALF
+}
+
+// The words of eight octets from a place, put to h one after the other.
+fn words_onto(s: &[u8], h: u64, at: usize, count: usize) -> u64
+    requires { ⌜ at + 8 * count ≤ length (now s) ⌝ }
+    ensures { λ r. ⌜ r ≡ wordsOnto (now (s .entry)) h at count ⌝ }
+{
+    let mut mixed = h;
+    let mut k = 0;
+    while k < count {
+        mixed = join(mixed, octets::long(s, at + 8 * k));
+        k += 1;
+    }
+    mixed
+}
+
+// How many words are mixed of a name of n octets. There is a most: a listing may have a name of a million octets in every row.
+fn word_count(n: usize) -> usize
+    ensures { λ r. ⌜ (r ≡ wordCount n) × (8 * r ≤ n + 7) ⌝ }
+{
+    if n < 128 {
+        return (n + 7) / 8;
+    }
+    16
+}
+
+fn words_mix(s: &[u8], words: usize) -> u64
+    requires { ⌜ 8 * words ≤ length (now s) + 7 ⌝ }
+    requires { ⌜ 8 ≤ length (now s) ⌝ }
+    ensures { λ r. ⌜ r ≡ wordsMix (now (s .entry)) words ⌝ }
+{
+    let front = words / 2;
+    let back = words - front;
+    let first = words_onto(s, s.len() as u64, 0, front);
+    words_onto(s, first, s.len() - 8 * back, back)
 }
 
 fn name_mix(s: &[u8]) -> u64
     ensures { λ r. ⌜ r ≡ nameMix (now (s .entry)) ⌝ }
 {
     let n = s.len();
-    let l = n as u64;
     if 8 <= n {
-        return sum(
-            l,
-            octets::long(s, 0),
-            octets::long(s, n / 2 - 4),
-            octets::long(s, n - 8),
-        );
+        return words_mix(s, word_count(n));
     }
     if 4 <= n {
-        return sum(
-            l,
-            octets::word(s, 0) as u64,
-            0,
-            octets::word(s, n - 4) as u64,
+        return join(
+            n as u64,
+            octets::word(s, 0) as u64 + HALF * (octets::word(s, n - 4) as u64),
         );
     }
-    sum(l, octet_at(s, 0), octet_at(s, 1), octet_at(s, 2))
-}
-
-fn stir(x: u64) -> u64
-    ensures { λ r. ⌜ (r ≡ stirred x) × (r < 4294967296) ⌝ }
-{
-    fold(x) * 33554393 / 65536 % 4294967296
+    join(
+        n as u64,
+        octet_at(s, 0) + 256 * octet_at(s, 1) + 65536 * octet_at(s, 2),
+    )
 }
 
 // A name and three numbers, by their patterns.

@@ -11,5 +11,5 @@ octet-at-spec =
     tie.close
     (tie.spec (λ c. search needs)
     (λ c. omega (arith, c .shared-slice-known .given (c .before .before .args .at)))
-    (λ c. search needs)
-    (λ c. sym (List·getD-eq-default (c .before .args .s .now) 0 (c .if1 .left))))
+    (λ c. omega (arith, c .shared-slice-known .given (c .before .before .args .at)))
+    (λ c. (sym (List·getD-eq-default (c .before .args .s .now) 0 (c .if1 .left)), omega arith)))

@@ -2,6 +2,7 @@
 use native.Mathlib.Nat.{mod-lt}
 use native.Mathlib.Omega.{arith}
 use Rattle.index.specs.Hashes.{stirred}
+use Rattle.index.proofs.Entering.{mul-lt}
 use borrow.Author.Needs.{needs}
 use Rattle.index.proofs.hashes.stir.Statement.{statement}
 use Rattle.index.proofs.hashes.stir.Tie as tie
@@ -11,5 +12,7 @@ unfolding stirred
 stir-spec =
     tie.close
     (tie.spec (λ c κs. search needs)
-    (λ c. search needs)
-    (λ c. (simp (c .fold .ensures .0), mod-lt _ (omega arith))))
+    (λ c κs. search needs)
+    (λ c. omega arith)
+    (λ c. record { fits = mul-lt _ _ (c .before .low .ensures .1) (omega arith) })
+    (λ c. (simp (c .before .low .ensures .0, c .high .ensures .0), mod-lt _ (omega arith))))

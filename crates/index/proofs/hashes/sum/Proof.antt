@@ -1,4 +1,5 @@
 -- `index::hashes/sum` meets its contract.
+use native.Mathlib.Omega.{arith}
 use Rattle.index.specs.Hashes.{sumOf}
 use borrow.Author.Needs.{needs}
 use Rattle.index.proofs.hashes.sum.Statement.{statement}
@@ -19,4 +20,16 @@ sum-spec =
     (λ c κs. search needs)
     (λ c. search needs)
     (λ c. search needs)
-    (λ c. cc))
+    (λ c κs. search needs)
+    (λ c. search needs)
+    (λ c. search needs)
+    (λ c κs. search needs)
+    (λ c. search needs)
+    (λ c. search needs)
+    (λ c κs. search needs)
+    (λ c. search needs)
+    (λ c. search needs)
+    (λ c κs. search needs)
+    (λ c. search needs)
+    (λ c. search needs)
+    (λ c. ((cc), omega arith)))
