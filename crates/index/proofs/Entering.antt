@@ -9,20 +9,21 @@ use borrow.Author.Tests.{ltb-true, ltb-false}
 use lib.Dec.{ltb}
 use Rattle.octets.specs.Search.{first}
 use Rattle.octets.specs.SearchLaws.{first-lowest}
+use Rattle.index.specs.Chains.{printRange}
 use Rattle.index.specs.ChainLaws.{by-test, entry-new, entry-old, entry-never, asks-by}
-use Rattle.index.specs.Work.{placeOf, printOf, pushed, settled, Leads, Keyed, Entered}
+use Rattle.index.specs.Work.{mixRange, placeOf, printOf, pushed, settled, Leads, Keyed, Entered}
 use Rattle.index.proofs.Words.{indexed-old, indexed-new}
 
 -- two u32, and what their product is
-pub mul-lt : (m y : ℕ) → y < 4294967296 → m < 4294967296 → y * m < 18446744073709551616
+pub mul-lt : (m y : ℕ) → y < mixRange → m < mixRange → y * m < 18446744073709551616
 mul-lt m y l s = lt-of-le-of-lt (mul-le-mul-left y (le-of-lt s)) (omega arith)
 
 -- a mix is a u32, so its place is among the heads
-pub place-below : (m y : ℕ) → y < 4294967296 → 0 < m → placeOf m y < m
+pub place-below : (m y : ℕ) → y < mixRange → 0 < m → placeOf m y < m
 unfolding placeOf
-place-below m y l s = div-lt-iff-lt-mul {k = 4294967296} (omega arith) .1 (rw (mul-comm m 4294967296) (mul-lt-mul-of-pos-right l s))
+place-below m y l s = div-lt-iff-lt-mul {k = mixRange} (omega arith) .1 (rw (mul-comm m mixRange) (mul-lt-mul-of-pos-right l s))
 
-pub print-small : (y : ℕ) → printOf y < 8192
+pub print-small : (y : ℕ) → printOf y < printRange
 unfolding printOf
 print-small y = mod-lt y (omega arith)
 
@@ -37,7 +38,7 @@ module _ {K : Type 0} {key : ℕ → K} {passes : K → ℕ → Bool} {mixOf : K
 
   module _ {n : ℕ} (x : Keyed key passes mixOf w m rows n) where
     -- where a row that answers to a key has it, the head of the key's hash leads to those that do
-    pub keyed-leads : {a : K} {y : ℕ} → ((k : ℕ) → passes a k ≡ true → a ≡ key k) → (m ≡ 0 → ⊥) → y ≡ mixOf a → y < 4294967296 → n ≤ rows → Leads (passes a) w m (placeOf m y) (printOf y) n
+    pub keyed-leads : {a : K} {y : ℕ} → ((k : ℕ) → passes a k ≡ true → a ≡ key k) → (m ≡ 0 → ⊥) → y ≡ mixOf a → y < mixRange → n ≤ rows → Leads (passes a) w m (placeOf m y) (printOf y) n
     keyed-leads {a} {y} sound s e l i = record {
       fits = λ x k. passes (key x) k;
       hash = λ k. placeOf m (mixOf (key k));
@@ -51,7 +52,7 @@ module _ {K : Type 0} {key : ℕ → K} {passes : K → ℕ → Bool} {mixOf : K
     }
 
     -- how many heads there are, for the place of a mix
-    pub keyed-heads : (m ≡ 0 → ⊥) → (0 < m) × (m < 4294967296)
+    pub keyed-heads : (m ≡ 0 → ⊥) → (0 < m) × (m < mixRange)
     keyed-heads s = (x .there s .some, x .there s .few)
 
     pub keyed-all : {k : ℕ} → n ≡ k → Keyed key passes mixOf w m rows k
@@ -62,14 +63,14 @@ module _ {K : Type 0} {key : ℕ → K} {passes : K → ℕ → Bool} {mixOf : K
     keyed-old l = record { there = λ s. indexed-old _ _ _ w m rows n (x .there s) (entry-old (λ x k. passes (key x) k) n l) }
 
     -- none does, but row n itself
-    keyed-new : {y : ℕ} → n < rows → passes (key n) n ≡ true → first (passes (key n)) n ≡ n → y ≡ mixOf (key n) → y < 4294967296
+    keyed-new : {y : ℕ} → n < rows → passes (key n) n ≡ true → first (passes (key n)) n ≡ n → y ≡ mixOf (key n) → y < mixRange
         → Keyed key passes mixOf (pushed w m (placeOf m y) y n) m rows (n + 1)
     keyed-new {y} l t e q b = record {
       there = λ s. indexed-new _ _ _ w m rows n (x .there s) (λ k. print-small (mixOf (key k))) l (entry-new (λ x k. passes (key x) k) n t e)
           (placeOf m y) y (ap (placeOf m) q) (ap printOf q) (place-below m y b (x .there s .some));
     }
 
-    keyed-settled : {y r : ℕ} → n < rows → passes (key n) n ≡ true → r ≡ first (passes (key n)) n → y ≡ mixOf (key n) → y < 4294967296
+    keyed-settled : {y r : ℕ} → n < rows → passes (key n) n ≡ true → r ≡ first (passes (key n)) n → y ≡ mixOf (key n) → y < mixRange
         → Keyed key passes mixOf (settled w m (placeOf m y) y n r) m rows (n + 1)
     unfolding settled
     keyed-settled {r = r} l t e q b =
@@ -78,7 +79,7 @@ module _ {K : Type 0} {key : ℕ → K} {passes : K → ℕ → Bool} {mixOf : K
         (λ o. simp o (keyed-new l t (omega (arith, ltb-false r n o, first-lowest (passes (key n)) n .most)) q b))
 
     -- row n answers to its key, and is settled
-    pub entered : {w' : List ℕ} {y r : ℕ} {a : K} → n < rows → passes a n ≡ true → a ≡ key n → r ≡ first (passes a) n → y ≡ mixOf a → y < 4294967296
+    pub entered : {w' : List ℕ} {y r : ℕ} {a : K} → n < rows → passes a n ≡ true → a ≡ key n → r ≡ first (passes a) n → y ≡ mixOf a → y < mixRange
         → w' ≡ settled w m (placeOf m y) y n r → Entered key passes mixOf w' m rows n r
     entered l t e f q b o = record { found = rw e at f; indexed = rw o (keyed-settled l (rw e at t) (rw e at f) (rw e at q) b) }
 

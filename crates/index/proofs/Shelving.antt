@@ -12,9 +12,9 @@ use lib.Dec.{eqb, ltb}
 use lib.ListN.{length}
 use Rattle.octets.specs.Search.{first}
 use Rattle.octets.specs.SearchLaws.{Lowest}
-use Rattle.index.specs.Chains.{isEntry, newest, marked}
+use Rattle.index.specs.Chains.{rowRange, isEntry, newest, marked}
 use Rattle.index.specs.ChainLaws.{by-test, lowest-is, entry-new, newest-le, newest-newest, entry-below, chain-hash, marked-zero, marked-none, marked-row, marked-print}
-use Rattle.index.specs.Work.{wordAt, placeOf, printOf, Indexed, Keyed}
+use Rattle.index.specs.Work.{mixRange, wordAt, placeOf, printOf, Indexed, Keyed}
 use Rattle.index.proofs.Entering.{place-below}
 
 -- no row below k is row k
@@ -62,7 +62,7 @@ module _ {test : ℕ → Bool} {w : List ℕ} {m h p n : ℕ} where
     least = λ k a l t. absurd (omega (arith, on-shelf s n k l t));
   }
 
-  row-of : {x best : ℕ} (s : Shelving test w m h p n x best) → x % 524288 ≡ s .j
+  row-of : {x best : ℕ} (s : Shelving test w m h p n x best) → x % rowRange ≡ s .j
   row-of {x} s = marked-row (s .shelf .print) (s .j) x (s .word) (omega (arith, s .low, s .shelf .indexed .small))
 
   module _ {x best : ℕ} (s : Shelving test w m h p n x best) where
@@ -70,57 +70,57 @@ module _ {test : ℕ → Bool} {w : List ℕ} {m h p n : ℕ} where
       some : s .j ≡ 0 → ⊥
       some e = o (s .word ∙ rw e (marked-zero (s .shelf .print)))
 
-      at : s .j ≡ suc (x % 524288 - 1)
+      at : s .j ≡ suc (x % rowRange - 1)
       at = omega (arith, row-of s, some)
 
       -- the row that it has come to is there, and so is its link
-      pub shelving-row : (0 < x % 524288) × (x % 524288 - 1 < n) × (4 * (m + (x % 524288 - 1)) + 4 ≤ length w)
+      pub shelving-row : (0 < x % rowRange) × (x % rowRange - 1 < n) × (4 * (m + (x % rowRange - 1)) + 4 ≤ length w)
       shelving-row = (omega (arith, at, row-of s), omega (arith, at, s .low), omega (arith, at, s .low, s .shelf .indexed .room))
 
       -- where it passes, its print is p
-      pub shelving-print : test (x % 524288 - 1) ≡ true → x / 524288 ≡ p
+      pub shelving-print : test (x % rowRange - 1) ≡ true → x / rowRange ≡ p
       shelving-print t =
-          marked-print (s .shelf .print) (x % 524288 - 1) x (rw at at (s .word)) (omega (arith, at, s .low, s .shelf .indexed .small))
-          ∙ s .shelf .printed (x % 524288 - 1) t
+          marked-print (s .shelf .print) (x % rowRange - 1) x (rw at at (s .word)) (omega (arith, at, s .low, s .shelf .indexed .small))
+          ∙ s .shelf .printed (x % rowRange - 1) t
 
       abbrev next : ℕ
-      next = newest eqb (s .shelf .hash) h (x % 524288 - 1)
+      next = newest eqb (s .shelf .hash) h (x % rowRange - 1)
 
-      module _ {v b : ℕ} (q : v ≡ wordAt w (m + (x % 524288 - 1))) (e : b ≡ cond (test (x % 524288 - 1)) (x % 524288 - 1) best) where
+      module _ {v b : ℕ} (q : v ≡ wordAt w (m + (x % rowRange - 1))) (e : b ≡ cond (test (x % rowRange - 1)) (x % rowRange - 1) best) where
         better : (b ≤ n) × (b < n → test b ≡ true) × ((k : ℕ) → next ≤ k → k < n → test k ≡ true → b ≤ k)
         better =
-            by-test (test (x % 524288 - 1))
-            (λ t. let f : b ≡ x % 524288 - 1 = e ∙ rw t refl in (omega (arith, shelving-row), (λ l. rw f t), λ k a l y. taken f k a l y))
+            by-test (test (x % rowRange - 1))
+            (λ t. let f : b ≡ x % rowRange - 1 = e ∙ rw t refl in (omega (arith, shelving-row), (λ l. rw f t), λ k a l y. taken f k a l y))
             (λ t. let f : b ≡ best = e ∙ rw t refl in (rw f (s .most), rw f (s .here), λ k a l y. kept t f k a l y))
           where
-            taken : b ≡ x % 524288 - 1 → (k : ℕ) → next ≤ k → k < n → test k ≡ true → b ≤ k
-            taken f k a l y = by-test (ltb k (x % 524288 - 1)) (λ z. absurd (omega (arith, on-shelf (s .shelf) (x % 524288 - 1) k (ltb-true k (x % 524288 - 1) z) y))) (λ z. omega (arith, ltb-false k (x % 524288 - 1) z))
+            taken : b ≡ x % rowRange - 1 → (k : ℕ) → next ≤ k → k < n → test k ≡ true → b ≤ k
+            taken f k a l y = by-test (ltb k (x % rowRange - 1)) (λ z. absurd (omega (arith, on-shelf (s .shelf) (x % rowRange - 1) k (ltb-true k (x % rowRange - 1) z) y))) (λ z. omega (arith, ltb-false k (x % rowRange - 1) z))
 
-            kept : test (x % 524288 - 1) ≡ false → b ≡ best → (k : ℕ) → next ≤ k → k < n → test k ≡ true → b ≤ k
+            kept : test (x % rowRange - 1) ≡ false → b ≡ best → (k : ℕ) → next ≤ k → k < n → test k ≡ true → b ≤ k
             kept t f k a l y =
-                by-test (ltb k (x % 524288 - 1))
-                (λ z. absurd (omega (arith, on-shelf (s .shelf) (x % 524288 - 1) k (ltb-true k (x % 524288 - 1) z) y)))
+                by-test (ltb k (x % rowRange - 1))
+                (λ z. absurd (omega (arith, on-shelf (s .shelf) (x % rowRange - 1) k (ltb-true k (x % rowRange - 1) z) y)))
                 (λ z.
                 ⊎-elim
                 (λ g. absurd (false≢true (sym t ∙ ap test g ∙ y)))
                 (λ g. rw f (s .least k (omega (arith, at)) l y))
-                (eq-or-lt-of-le (ltb-false k (x % 524288 - 1) z)))
+                (eq-or-lt-of-le (ltb-false k (x % rowRange - 1) z)))
 
         pub shelving-on : Shelving test w m h p n v b
         shelving-on = record {
           shelf = s .shelf;
           j = next;
-          word = q ∙ s .shelf .indexed .index .link (x % 524288 - 1) (shelving-row .1) (entry-all (x % 524288 - 1)) ∙ rw (chain-hash eqb (s .shelf .hash) h (x % 524288 - 1) (rw at at (s .chain))) refl;
-          low = omega (arith, newest-le eqb (s .shelf .hash) h (x % 524288 - 1), shelving-row);
-          chain = newest-newest eqb (s .shelf .hash) h (x % 524288 - 1);
+          word = q ∙ s .shelf .indexed .index .link (x % rowRange - 1) (shelving-row .1) (entry-all (x % rowRange - 1)) ∙ rw (chain-hash eqb (s .shelf .hash) h (x % rowRange - 1) (rw at at (s .chain))) refl;
+          low = omega (arith, newest-le eqb (s .shelf .hash) h (x % rowRange - 1), shelving-row);
+          chain = newest-newest eqb (s .shelf .hash) h (x % rowRange - 1);
           most = better .0;
           here = better .1;
           least = better .2;
         }
 
-        pub shelving-less : v % 524288 < x % 524288
+        pub shelving-less : v % rowRange < x % rowRange
         unfolding shelving-on
-        shelving-less = omega (arith, row-of shelving-on, row-of s, at, newest-le eqb (s .shelf .hash) h (x % 524288 - 1))
+        shelving-less = omega (arith, row-of shelving-on, row-of s, at, newest-le eqb (s .shelf .hash) h (x % rowRange - 1))
 
     pub shelving-end : x ≡ 0 → best ≡ first test n
     shelving-end e = sym (lowest-is test n best (record { most = s .most; below = none; here = s .here }))
@@ -133,7 +133,7 @@ module _ {test : ℕ → Bool} {w : List ℕ} {m h p n : ℕ} where
 pub ruleset shelvings = (shelving-start, shelving-on, shelving-less, shelving-end, needs)
 
 -- the shelf that keys make: the mix of row k is mixOf k, and those that pass have the mix y
-pub shelf-of : {mixOf : ℕ → ℕ} {w : List ℕ} {m n y : ℕ} {test : ℕ → Bool} → Keyed (λ k. k) eqb mixOf w m n n → (m ≡ 0 → ⊥) → y < 4294967296
+pub shelf-of : {mixOf : ℕ → ℕ} {w : List ℕ} {m n y : ℕ} {test : ℕ → Bool} → Keyed (λ k. k) eqb mixOf w m n n → (m ≡ 0 → ⊥) → y < mixRange
     → ((k : ℕ) → test k ≡ true → y ≡ mixOf k) → Shelf test w m (placeOf m y) (printOf y) n
 shelf-of {mixOf} {m = m} {y = y} x s l f = record {
   hash = λ k. placeOf m (mixOf k);

@@ -7,7 +7,7 @@ use native.Mathlib.Omega.{arith}
 use borrow.Author.Needs.{needs}
 use lib.ListN.{length}
 use Rattle.octets.specs.Search.{first}
-use Rattle.index.specs.Chains.{newest, marked, Walk}
+use Rattle.index.specs.Chains.{rowRange, newest, marked, Walk}
 use Rattle.index.specs.ChainLaws.{walk-start, walk-found, walk-entry, walk-on, walk-end, marked-zero, marked-none, marked-row, marked-print}
 use Rattle.index.specs.Work.{wordAt, Leads}
 
@@ -27,7 +27,7 @@ module _ {test : ℕ → Bool} {w : List ℕ} {m h p n : ℕ} where
     walk = walk-start (l .fits) (l .hash) test h (l .asks) n (newest (l .fits) (l .hash) h n) refl;
   }
 
-  row-of : {x : ℕ} (s : Walking test w m h p n x) → x % 524288 ≡ s .j
+  row-of : {x : ℕ} (s : Walking test w m h p n x) → x % rowRange ≡ s .j
   row-of {x} s = marked-row (s .leads .print) (s .j) x (s .word) (omega (arith, s .walk .low, s .leads .inside, s .leads .indexed .small))
 
   module _ {x : ℕ} (s : Walking test w m h p n x) where
@@ -36,39 +36,39 @@ module _ {test : ℕ → Bool} {w : List ℕ} {m h p n : ℕ} where
       some : s .j ≡ 0 → ⊥
       some e = o (s .word ∙ rw e (marked-zero (s .leads .print)))
 
-      at : s .j ≡ suc (x % 524288 - 1)
+      at : s .j ≡ suc (x % rowRange - 1)
       at = omega (arith, row-of s, some)
 
-      pub walking-row : (0 < x % 524288) × (x % 524288 - 1 < n) × (4 * (m + (x % 524288 - 1)) + 4 ≤ length w)
+      pub walking-row : (0 < x % rowRange) × (x % rowRange - 1 < n) × (4 * (m + (x % rowRange - 1)) + 4 ≤ length w)
       walking-row = (omega (arith, at, row-of s), omega (arith, at, s .walk .low), omega (arith, at, s .walk .low, s .leads .inside, s .leads .indexed .room))
 
       -- where it passes, its print is p
-      pub walking-print : test (x % 524288 - 1) ≡ true → x / 524288 ≡ p
+      pub walking-print : test (x % rowRange - 1) ≡ true → x / rowRange ≡ p
       walking-print t =
-          marked-print (s .leads .print) (x % 524288 - 1) x (rw at at (s .word)) (omega (arith, at, s .walk .low, s .leads .inside, s .leads .indexed .small))
-          ∙ s .leads .printed (x % 524288 - 1) t
+          marked-print (s .leads .print) (x % rowRange - 1) x (rw at at (s .word)) (omega (arith, at, s .walk .low, s .leads .inside, s .leads .indexed .small))
+          ∙ s .leads .printed (x % rowRange - 1) t
 
-      module _ {b : Bool} (e : b ≡ test (x % 524288 - 1)) where
+      module _ {b : Bool} (e : b ≡ test (x % rowRange - 1)) where
         -- b is the outcome of its test
-        pub walking-found : b ≡ true → x % 524288 - 1 ≡ first test n
-        walking-found t = walk-found (s .leads .fits) (s .leads .hash) test h (s .leads .asks) n (s .j) (x % 524288 - 1) at (s .walk) (sym e ∙ t)
+        pub walking-found : b ≡ true → x % rowRange - 1 ≡ first test n
+        walking-found t = walk-found (s .leads .fits) (s .leads .hash) test h (s .leads .asks) n (s .j) (x % rowRange - 1) at (s .walk) (sym e ∙ t)
 
         abbrev next : ℕ
-        next = newest (s .leads .fits) (s .leads .hash) (s .leads .hash (x % 524288 - 1)) (x % 524288 - 1)
+        next = newest (s .leads .fits) (s .leads .hash) (s .leads .hash (x % rowRange - 1)) (x % rowRange - 1)
 
         on : b ≡ false → Walk (s .leads .fits) (s .leads .hash) test h n next × (next < s .j)
-        on f = walk-on (s .leads .fits) (s .leads .hash) test h (s .leads .asks) n (s .j) (x % 524288 - 1) next at (s .walk) (sym e ∙ f) (λ new. refl)
+        on f = walk-on (s .leads .fits) (s .leads .hash) test h (s .leads .asks) n (s .j) (x % rowRange - 1) next at (s .walk) (sym e ∙ f) (λ new. refl)
 
         -- v is its link
-        pub walking-on : {v : ℕ} → b ≡ false → v ≡ wordAt w (m + (x % 524288 - 1)) → Walking test w m h p n v
+        pub walking-on : {v : ℕ} → b ≡ false → v ≡ wordAt w (m + (x % rowRange - 1)) → Walking test w m h p n v
         walking-on f q = record {
           leads = s .leads;
           j = next;
-          word = q ∙ s .leads .indexed .index .link (x % 524288 - 1) (walking-row .1) (walk-entry (s .leads .fits) (s .leads .hash) test h (s .leads .asks) n (s .j) (x % 524288 - 1) at (s .walk));
+          word = q ∙ s .leads .indexed .index .link (x % rowRange - 1) (walking-row .1) (walk-entry (s .leads .fits) (s .leads .hash) test h (s .leads .asks) n (s .j) (x % rowRange - 1) at (s .walk));
           walk = on f .0;
         }
 
-        pub walking-less : {v : ℕ} → b ≡ false → v ≡ wordAt w (m + (x % 524288 - 1)) → v % 524288 < x % 524288
+        pub walking-less : {v : ℕ} → b ≡ false → v ≡ wordAt w (m + (x % rowRange - 1)) → v % rowRange < x % rowRange
         unfolding walking-on
         walking-less f q = let t = walking-on f q in omega (arith, row-of t, row-of s, on f .1)
 

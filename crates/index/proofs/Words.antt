@@ -11,9 +11,9 @@ use lib.Dec.{ltb}
 use lib.ListN.{length, getD, set, length-set}
 use lib.Seq.{getD-set-same, getD-set-other}
 use Rattle.octets.specs.Octets.{le32}
-use Rattle.index.specs.Chains.{isEntry, newest, marked, Index}
+use Rattle.index.specs.Chains.{rowRange, printRange, isEntry, newest, marked, Index}
 use Rattle.index.specs.ChainLaws.{by-test, newest-le, index-none, index-old, index-new, marked-small}
-use Rattle.index.specs.Work.{wordAt, putWord, printOf, pushed, Indexed, headsFor, Ready}
+use Rattle.index.specs.Work.{mixRange, wordAt, putWord, printOf, pushed, Indexed, spareHeads, headsFor, Ready}
 
 pub length-put : (w : List ℕ) (j x : ℕ) → length (putWord w j x) ≡ length w
 unfolding putWord
@@ -90,7 +90,7 @@ word-zero w h m b l z =
 
 -- ---- the index in these words
 module _ (fits : ℕ → ℕ → Bool) (hash print : ℕ → ℕ) (w : List ℕ) (m rows : ℕ) where
-  pub indexed-none : 0 < m → m < 4294967296 → 4 * (m + rows) ≤ length w → rows < 524287 → ((h : ℕ) → h < m → wordAt w h ≡ 0) → Indexed fits hash print w m rows 0
+  pub indexed-none : 0 < m → m < mixRange → 4 * (m + rows) ≤ length w → rows < rowRange - 1 → ((h : ℕ) → h < m → wordAt w h ≡ 0) → Indexed fits hash print w m rows 0
   indexed-none s f r l z = record { some = s; few = f; room = r; small = l; index = index-none fits hash print m (wordAt w) (λ k. wordAt w (m + k)) z }
 
   module _ (i : ℕ) (x : Indexed fits hash print w m rows i) where
@@ -104,10 +104,10 @@ module _ (fits : ℕ → ℕ → Bool) (hash print : ℕ → ℕ) (w : List ℕ)
     }
 
     -- a head is a u32
-    head-small : ((k : ℕ) → print k < 8192) → i < rows → (h : ℕ) → h < m → wordAt w h < 4294967296
+    head-small : ((k : ℕ) → print k < printRange) → i < rows → (h : ℕ) → h < m → wordAt w h < 4294967296
     head-small b c h l = rw (x .index .head h l) (marked-small print (newest fits hash h i) (omega (arith, newest-le fits hash h i, x .small)) b)
 
-    pub indexed-new : ((k : ℕ) → print k < 8192) → i < rows → isEntry fits i ≡ true → (h y : ℕ) → h ≡ hash i → printOf y ≡ print i → h < m
+    pub indexed-new : ((k : ℕ) → print k < printRange) → i < rows → isEntry fits i ≡ true → (h y : ℕ) → h ≡ hash i → printOf y ≡ print i → h < m
         → Indexed fits hash print (pushed w m h y i) m rows (i + 1)
     unfolding pushed marked
     indexed-new pb c o h y e p l = record {
@@ -125,7 +125,7 @@ module _ (fits : ℕ → ℕ → Bool) (hash print : ℕ → ℕ) (w : List ℕ)
     }
       where
         v : ℕ
-        v = i + 1 + 524288 * printOf y
+        v = i + 1 + rowRange * printOf y
 
         w1 : List ℕ
         w1 = putWord w (m + i) (wordAt w h)
@@ -135,16 +135,16 @@ module _ (fits : ℕ → ℕ → Bool) (hash print : ℕ → ℕ) (w : List ℕ)
 
 -- ---- how many heads
 -- where there are some, they and the links have room, and a row and one has 19 bits
-pub heads-fit : (words rows m : ℕ) → m ≡ headsFor words rows → (m ≡ 0 → ⊥) → (m + rows ≤ words) × (rows < 524287) × (m ≤ rows + 16384)
+pub heads-fit : (words rows m : ℕ) → m ≡ headsFor words rows → (m ≡ 0 → ⊥) → (m + rows ≤ words) × (rows < rowRange - 1) × (m ≤ rows + spareHeads)
 unfolding headsFor
 heads-fit words rows m e s =
-    by-test (ltb rows 524287)
+    by-test (ltb rows (rowRange - 1))
     (λ a.
     by-test (ltb rows words)
     (λ b.
-    by-test (ltb (words - rows) (rows + 16384))
-    (λ c. let q = simp (a, b, c) at e in (omega (arith, ltb-true rows words b), ltb-true rows 524287 a, omega (arith, ltb-true (words - rows) (rows + 16384) c)))
-    (λ c. let q = simp (a, b, c) at e in (omega (arith, ltb-true rows words b, ltb-false (words - rows) (rows + 16384) c), ltb-true rows 524287 a, omega arith)))
+    by-test (ltb (words - rows) (rows + spareHeads))
+    (λ c. let q = simp (a, b, c) at e in (omega (arith, ltb-true rows words b), ltb-true rows (rowRange - 1) a, omega (arith, ltb-true (words - rows) (rows + spareHeads) c)))
+    (λ c. let q = simp (a, b, c) at e in (omega (arith, ltb-true rows words b, ltb-false (words - rows) (rows + spareHeads) c), ltb-true rows (rowRange - 1) a, omega arith)))
     (λ b. absurd (s (simp (a, b) at e))))
     (λ a. absurd (s (simp a at e)))
 

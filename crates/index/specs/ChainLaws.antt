@@ -9,7 +9,7 @@ use borrow.Author.Tests.{eqb-true, eqb-false, eq-eqb, ltb-true, ltb-false}
 use lib.Dec.{eqb, ltb}
 use Rattle.octets.specs.Search.{first}
 use Rattle.octets.specs.SearchLaws.{Lowest, first-lowest}
-use Rattle.index.specs.Chains.{isEntry, newest, marked, Index, Asks, Walk}
+use Rattle.index.specs.Chains.{rowRange, printRange, isEntry, newest, marked, Index, Asks, Walk}
 
 -- by cases on a test
 pub by-test : {A : Type 0} (b : Bool) → (b ≡ true → A) → (b ≡ false → A) → A
@@ -218,7 +218,7 @@ module _ (fits : ℕ → ℕ → Bool) (hash print : ℕ → ℕ) (m : ℕ) (hea
 
 -- ---- what is stored of a row
 module _ (print : ℕ → ℕ) where
-  marked-some : (k : ℕ) → marked print (suc k) ≡ suc k + 524288 * print k
+  marked-some : (k : ℕ) → marked print (suc k) ≡ suc k + rowRange * print k
   unfolding marked
   marked-some k = refl
 
@@ -231,14 +231,14 @@ module _ (print : ℕ → ℕ) where
   marked-none zero e = refl
   marked-none (suc k) e = absurd (omega (arith, marked-some k))
 
-  pub marked-row : (j x : ℕ) → x ≡ marked print j → j ≤ 524287 → x % 524288 ≡ j
+  pub marked-row : (j x : ℕ) → x ≡ marked print j → j < rowRange → x % rowRange ≡ j
   marked-row zero x e l = omega (arith, e ∙ marked-zero)
   marked-row (suc k) x e l = omega (arith, marked-some k)
 
-  pub marked-print : (k x : ℕ) → x ≡ marked print (suc k) → suc k ≤ 524287 → x / 524288 ≡ print k
+  pub marked-print : (k x : ℕ) → x ≡ marked print (suc k) → suc k < rowRange → x / rowRange ≡ print k
   marked-print k x e l = omega (arith, marked-some k)
 
-  -- a print of 13 bits: what is stored is a u32
-  pub marked-small : (j : ℕ) → j ≤ 524287 → ((k : ℕ) → print k < 8192) → marked print j < 4294967296
+  -- what is stored is a u32
+  pub marked-small : (j : ℕ) → j < rowRange → ((k : ℕ) → print k < printRange) → marked print j < 4294967296
   marked-small zero l b = omega (arith, marked-zero)
   marked-small (suc k) l b = omega (arith, marked-some k, b k)

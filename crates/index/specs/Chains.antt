@@ -6,6 +6,13 @@ use mathlib.Core.Bool.{Bool, true, cond, _&&_}
 use lib.Dec.{eqb}
 use Rattle.octets.specs.Search.{first}
 
+-- what a word of the index is made of: a row and one, of 19 bits, and above it the print of the row's key, of 13 bits. 0 is none
+abbrev pub rowRange : ℕ
+rowRange = 524288
+
+abbrev pub printRange : ℕ
+printRange = 8192
+
 -- row k is entered: it is the lowest row that answers to its own key. Rows like an earlier one are not, so that many equal rows stay cheap
 unfoldable pub isEntry : (ℕ → ℕ → Bool) → ℕ → Bool
 isEntry fits k = eqb (first (fits k) (suc k)) k
@@ -15,10 +22,10 @@ unfoldable pub newest : (ℕ → ℕ → Bool) → (ℕ → ℕ) → ℕ → ℕ
 newest fits hash h zero = zero
 newest fits hash h (suc n) = cond (isEntry fits n && eqb (hash n) h) (suc n) (newest fits hash h n)
 
--- a row and one as it is stored: with the print of the row's key, so that few rows are compared in vain. 0 is none
+-- a row and one as it is stored: with the print of the row's key, so that few rows are compared in vain
 unfoldable pub marked : (ℕ → ℕ) → ℕ → ℕ
 marked print zero = zero
-marked print (suc k) = suc k + 524288 * print k
+marked print (suc k) = suc k + rowRange * print k
 
 -- heads and next index the rows below n: heads has the newest row of each hash below m, and next, for each row entered, the next older one of its hash
 pub record Index (fits : ℕ → ℕ → Bool) (hash print : ℕ → ℕ) (m : ℕ) (heads next : ℕ → ℕ) (n : ℕ) : Type 0 where

@@ -2,27 +2,36 @@
 use Prim.Native.Nat.{ℕ, zero, suc, _+_, _-_, _*_, _/_, _%_}
 use mathlib.Core.List.{List}
 use mathlib.Core.Bool.{cond}
+use lib.Bits.{bitXor}
 use lib.Dec.{leb, ltb}
 use lib.IntN.{ℤ}
 use lib.ListN.{length, getD}
 use mir.Syntax.{w64}
 use mir.Val.{ofZ}
 use Rattle.octets.specs.Octets.{le32, le64}
+use Rattle.index.specs.Work.{mixRange}
 
--- ---- numbers: each half of a 64-bit pattern has a multiplier of its own, so that no step from one number to the next makes the sum stand still
+-- ---- numbers: each half of a 64-bit pattern has a multiplier of its own, so that numbers at even steps have sums apart
+abbrev pub halfRange : ℕ
+halfRange = 4294967296
+
+abbrev pub lower : ℕ → ℕ
+lower x = x % halfRange
+
+abbrev pub upper : ℕ → ℕ
+upper x = x / halfRange
+
 -- a pattern put to what is mixed already
 unfoldable pub joined : ℕ → ℕ → ℕ
-joined h x = h % 4294967296 * 894509717 + h / 4294967296 * 703824437 + x % 4294967296 * 1008766067 + x / 4294967296 * 605869969
+joined h x = lower (bitXor h x) * 1266295873 + upper (bitXor h x) * 1126869067
 
--- four patterns
-unfoldable pub sumOf : ℕ → ℕ → ℕ → ℕ → ℕ
-sumOf a b c d =
-    a % 4294967296 * 155374529 + a / 4294967296 * 140073361 + b % 4294967296 * 204820423 + b / 4294967296 * 165907793
-    + c % 4294967296 * 140425823 + c / 4294967296 * 192246287 + d % 4294967296 * 166166797 + d / 4294967296 * 266558269
+-- three patterns
+unfoldable pub sumOf : ℕ → ℕ → ℕ → ℕ
+sumOf z c r = lower z * 688268543 + upper z * 675917051 + lower c * 726027349 + upper c * 598323107 + lower r * 659491247 + upper r * 619448981
 
--- a sum below 2^63 stirred down to a u32: the middle of the product of its halves, in which every digit of both has a part
+-- a pattern stirred down to a mix: the middle of a product of its halves, in which every digit of both has a part
 unfoldable pub stirred : ℕ → ℕ
-stirred x = x % 4294967296 * (x / 4294967296 + 2147483648) / 65536 % 4294967296
+stirred x = lower x * (x / 8589934592 + 2147483648) / 65536 % mixRange
 
 -- ---- names
 -- the first count words of eight octets from a place, put to h one after the other
@@ -42,7 +51,7 @@ wordsMix x w = wordsOnto x (wordsOnto x (length x) 0 (w / 2)) (length x - 8 * (w
 unfoldable pub nameMix : List ℕ → ℕ
 nameMix x =
     cond (leb 8 (length x)) (wordsMix x (wordCount (length x)))
-    (cond (leb 4 (length x)) (joined (length x) (le32 x 0 + 4294967296 * le32 x (length x - 4)))
+    (cond (leb 4 (length x)) (joined (length x) (le32 x 0 + halfRange * le32 x (length x - 4)))
     (joined (length x) (getD x 0 0 + 256 * getD x 1 0 + 65536 * getD x 2 0)))
 
 -- ---- keys
@@ -50,6 +59,18 @@ nameMix x =
 abbrev pub pattern : ℤ → ℕ
 pattern z = ofZ w64 z
 
+-- 16 columns of 16 rows are a block
+abbrev pub side : ℕ
+side = 16
+
+-- where an address stands in its block, in steps that are some heads wide: tiles next to each other have heads next to each other, which is quick
+unfoldable pub inBlock : ℕ → ℕ → ℕ
+inBlock c r = (r % side * side + c % side) * 65537
+
+-- the mix of a name and three patterns: a block's is as good as drawn
+unfoldable pub mixed : List ℕ → ℕ → ℕ → ℕ → ℕ
+mixed x z c r = (stirred (bitXor (nameMix x) (sumOf z (c / side) (r / side))) + inBlock c r) % mixRange
+
 -- the mix of a key, from which its place among the heads and its print are taken
 unfoldable pub keyMix : (List ℕ × ℤ × ℤ × ℤ) → ℕ
-keyMix a = stirred (sumOf (nameMix (a .0)) (pattern (a .1)) (pattern (a .2)) (pattern (a .3)))
+keyMix a = mixed (a .0) (pattern (a .1)) (pattern (a .2)) (pattern (a .3))

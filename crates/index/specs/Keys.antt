@@ -8,17 +8,21 @@ use lib.IntN.{ℤ, pos}
 use lib.ListN.{length}
 use Rattle.octets.specs.Numbers.{signed}
 use Rattle.octets.specs.Texts.{spell}
+use Rattle.octets.specs.declared.Name.{Name}
+use Rattle.pack.specs.declared.MatrixRow.{MatrixRow}
 use Rattle.pack.specs.declared.TileRow.{TileRow}
-use Rattle.pack.specs.Tables.{contentsOf, setsOf, matricesOf, tilesOf}
+use Rattle.pack.specs.Tables.{matrixOf, contentsOf, setsOf, matricesOf, tilesOf}
 use Rattle.rules.specs.Contents.{givesTiles, setNamed}
-use Rattle.rules.specs.Matrices.{matrixNamed, atLevel, tileNamed}
+use Rattle.rules.specs.Matrices.{matrixNamed, atLevel, tileNamed, breaks531}
 use Rattle.rules.specs.Tiles.{atAddress}
+use Rattle.seek.specs.Tests.{matrixPasses}
+use Rattle.seek.specs.declared.MatrixTest.{MatrixTest}
 use Rattle.index.specs.declared.Kind.{Kind}
 use Rattle.index.specs.declared.Kind.the-variants as kind
 use Rattle.index.specs.declared.Key.{Key}
 use Rattle.index.specs.declared.Key.the-variants as key
 use Rattle.index.specs.Hashes.{keyMix}
-use Rattle.index.specs.Work.{Keyed, Entered}
+use Rattle.index.specs.Work.{headsFor, Keyed, Entered}
 
 -- how many rows the table of a kind has
 abbrev pub rowCount : Kind → List ℕ → ℕ
@@ -77,9 +81,35 @@ meaning names (key.SetName x) = (spell names x, pos 0, pos 0, pos 0)
 abbrev pub addressOf : List ℕ → TileRow → (List ℕ × ℤ × ℤ × ℤ)
 addressOf names a = (spell names (a .name), signed (a .zoom), signed (a .column), signed (a .row))
 
+-- ---- what a walk asks of row k
+-- whether it answers to a key
+abbrev pub answersTo : List ℕ → List ℕ → Key → ℕ → Bool
+answersTo t names a = answers (kindOf a) t names (meaning names a)
+
+-- whether it is at the address of a tile row
+abbrev pub addressed : List ℕ → List ℕ → TileRow → ℕ → Bool
+addressed t names a = answers kind.Address t names (addressOf names a)
+
+-- whether it has a level
+abbrev pub leveled : List ℕ → List ℕ → Name → ℕ → ℕ → Bool
+leveled t names x z = λ k. atLevel (spell names x) (signed z) (matricesOf t names .row k)
+
+-- whether it passes a test
+abbrev pub passing : List ℕ → List ℕ → MatrixTest → ℕ → Bool
+passing t names test = λ k. matrixPasses names test (matricesOf t names .row k)
+
+-- whether it breaks 531 with a row
+abbrev pub breaking531 : List ℕ → List ℕ → MatrixRow → ℕ → Bool
+breaking531 t names q = λ k. breaks531 (matrixOf names q) (matricesOf t names .row k)
+
+-- ---- the index
 -- w indexes the first n rows, where it has heads: of the rows with one key the lowest
 abbrev pub Indexes : Kind → List ℕ → List ℕ → List ℕ → ℕ → ℕ → Type 0
 Indexes s t names w m n = Keyed (keyOf s t names) (answers s t names) keyMix w m (rowCount s t) n
+
+-- it has as many heads as its octets have room for, and indexes all rows
+abbrev pub IndexesAll : Kind → List ℕ → List ℕ → ℕ → List ℕ → ℕ → Type 0
+IndexesAll s t names octets w m = (m ≡ headsFor (octets / 4) (rowCount s t)) × Indexes s t names w m (rowCount s t)
 
 -- row i has been entered, and r is the lowest row below it that answers to its key, or i
 abbrev pub Enters : Kind → List ℕ → List ℕ → List ℕ → ℕ → ℕ → ℕ → Type 0

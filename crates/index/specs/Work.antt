@@ -8,7 +8,7 @@ use lib.ListN.{length}
 use lib.Seq.{sets}
 use Rattle.octets.specs.Octets.{le32, word}
 use Rattle.octets.specs.Search.{first}
-use Rattle.index.specs.Chains.{Index, Asks}
+use Rattle.index.specs.Chains.{rowRange, printRange, Index, Asks}
 
 -- word j
 unfoldable pub wordAt : List ℕ → ℕ → ℕ
@@ -18,16 +18,20 @@ wordAt w j = le32 w (4 * j)
 unfoldable pub putWord : List ℕ → ℕ → ℕ → List ℕ
 putWord w j x = sets w (4 * j) (word x)
 
--- of a key's mix, a u32: its place among m heads, and its print of 13 bits
+-- a mix is a u32
+abbrev pub mixRange : ℕ
+mixRange = 4294967296
+
+-- its place among m heads, and its print
 unfoldable pub placeOf : ℕ → ℕ → ℕ
-placeOf m y = y * m / 4294967296
+placeOf m y = y * m / mixRange
 
 unfoldable pub printOf : ℕ → ℕ
-printOf y = y % 8192
+printOf y = y % printRange
 
 -- w, of m heads, with row i, of mix y, put before the rows on the chain of hash h
 unfoldable pub pushed : List ℕ → ℕ → ℕ → ℕ → ℕ → List ℕ
-pushed w m h y i = putWord (putWord w (m + i) (wordAt w h)) h (i + 1 + 524288 * printOf y)
+pushed w m h y i = putWord (putWord w (m + i) (wordAt w h)) h (i + 1 + rowRange * printOf y)
 
 -- row i, for whose key a walk has found r: put there where it is the first of its key
 unfoldable pub settled : List ℕ → ℕ → ℕ → ℕ → ℕ → ℕ → List ℕ
@@ -36,16 +40,20 @@ settled w m h y i r = cond (ltb r i) w (pushed w m h y i)
 -- w, of m heads and as many links as there are rows, indexes the first n rows
 pub record Indexed (fits : ℕ → ℕ → Bool) (hash print : ℕ → ℕ) (w : List ℕ) (m rows n : ℕ) : Type 0 where
   pub some : 0 < m
-  pub few : m < 4294967296
+  pub few : m < mixRange
   pub room : 4 * (m + rows) ≤ length w
-  pub small : rows < 524287
+  pub small : rows < rowRange - 1
   pub index : Index fits hash print m (wordAt w) (λ k. wordAt w (m + k)) n
+
+-- how many heads an index has more than rows, where there is room
+abbrev pub spareHeads : ℕ
+spareHeads = 16384
 
 -- some more heads than there are rows, so that the chains of a small table are short, or as many as the words have room for beside the links.
 -- None where there is no room for a link for each row and a head, or where a row and one has more than 19 bits
 unfoldable pub headsFor : ℕ → ℕ → ℕ
 headsFor words rows =
-    cond (ltb rows 524287 && ltb rows words) (cond (ltb (words - rows) (rows + 16384)) (words - rows) (rows + 16384)) 0
+    cond (ltb rows (rowRange - 1) && ltb rows words) (cond (ltb (words - rows) (rows + spareHeads)) (words - rows) (rows + spareHeads)) 0
 
 -- w is ready for an index of m heads: whatever the keys, it indexes no row yet. With no head there is no index
 pub record Ready (w : List ℕ) (m rows : ℕ) : Type 0 where
@@ -62,6 +70,10 @@ pub record Leads (test : ℕ → Bool) (w : List ℕ) (m h p n : ℕ) : Type 0 w
   pub below : h < m
   pub inside : n ≤ rows
   pub indexed : Indexed fits hash print w m rows n
+
+-- the head of a mix leads to the rows that pass
+abbrev pub LeadsBy : (ℕ → Bool) → List ℕ → ℕ → ℕ → ℕ → Type 0
+LeadsBy test w m y n = Leads test w m (placeOf m y) (printOf y) n × ((m < mixRange) × (y < mixRange))
 
 -- Rows that have keys, `passes a k` for row k answering to the key a. With no head there is no index; else w indexes the first n rows
 pub record Keyed {K : Type 0} (key : ℕ → K) (passes : K → ℕ → Bool) (mixOf : K → ℕ) (w : List ℕ) (m rows n : ℕ) : Type 0 where

@@ -1,16 +1,20 @@
 // The mix of a key, from which its place among the heads of an index and its print are taken. Each half of a number has a multiplier of its own.
 ghost use mathlib.Core.Path.{_≡_};
-ghost use Prim.Native.Nat.{_+_, _*_, _/_, _%_, _<_, _≤_};
+ghost use Prim.Native.Nat.{_+_, _*_, _<_, _≤_};
 ghost use lib.ListN.{getD, length};
 ghost use Rattle.octets.specs.Numbers.{signed};
 ghost use Rattle.octets.specs.Texts.{spell};
-ghost use Rattle.index.specs.Hashes.{joined, sumOf, wordsOnto, wordCount, wordsMix, nameMix, stirred, keyMix};
+ghost use Rattle.index.specs.Hashes.{halfRange, lower, upper, joined, sumOf, stirred, wordsOnto, wordCount, wordsMix, nameMix, inBlock, keyMix};
+ghost use Rattle.index.specs.Work.{mixRange};
 ghost use Rattle.index.specs.Keys.{meaning};
 use crate::Key;
 use octets::Name;
 
-// How many numbers half a pattern can be.
-const HALF: u64 = 4294967296;
+// Half a pattern is below this.
+const HALF_RANGE: u64 = 4294967296;
+
+// How many columns and rows a block has.
+const SIDE: u64 = 16;
 
 // The octet at any place, 0 past the end.
 fn octet_at(s: &[u8], at: usize) -> u64
@@ -24,42 +28,40 @@ fn octet_at(s: &[u8], at: usize) -> u64
 
 // The lower half of a pattern, and the upper one.
 fn low(x: u64) -> u64
-    ensures { λ r. ⌜ (r ≡ x % 4294967296) × (r < 4294967296) ⌝ }
+    ensures { λ r. ⌜ (r ≡ lower x) × (r < halfRange) ⌝ }
 {
-    x % HALF
+    x % HALF_RANGE
 }
 
 fn high(x: u64) -> u64
-    ensures { λ r. ⌜ (r ≡ x / 4294967296) × (r < 4294967296) ⌝ }
+    ensures { λ r. ⌜ (r ≡ upper x) × (r < halfRange) ⌝ }
 {
-    x / HALF
+    x / HALF_RANGE
 }
 
 // A pattern put to what is mixed already.
 fn join(h: u64, x: u64) -> u64
     ensures { λ r. ⌜ r ≡ joined h x ⌝ }
 {
-    low(h) * 894509717 + high(h) * 703824437 + low(x) * 1008766067 + high(x) * 605869969
+    let both = h ^ x;
+    low(both) * 1266295873 + high(both) * 1126869067
 }
 
-fn sum(a: u64, b: u64, c: u64, d: u64) -> u64
-    ensures { λ r. ⌜ (r ≡ sumOf a b c d) × (r < 9223372036854775808) ⌝ }
+fn sum(z: u64, c: u64, r: u64) -> u64
+    ensures { λ s. ⌜ s ≡ sumOf z c r ⌝ }
 {
-    low(a) * 155374529
-        + high(a) * 140073361
-        + low(b) * 204820423
-        + high(b) * 165907793
-        + low(c) * 140425823
-        + high(c) * 192246287
-        + low(d) * 166166797
-        + high(d) * 266558269
+    low(z) * 688268543
+        + high(z) * 675917051
+        + low(c) * 726027349
+        + high(c) * 598323107
+        + low(r) * 659491247
+        + high(r) * 619448981
 }
 
 fn stir(x: u64) -> u64
-    requires { ⌜ x < 9223372036854775808 ⌝ }
-    ensures { λ r. ⌜ (r ≡ stirred x) × (r < 4294967296) ⌝ }
+    ensures { λ r. ⌜ (r ≡ stirred x) × (r < mixRange) ⌝ }
 {
-    low(x) * (high(x) + 2147483648) / 65536 % HALF
+    low(x) * (x / 8589934592 + 2147483648) / 65536 % HALF_RANGE
 }
 
 // The words of eight octets from a place, put to h one after the other.
@@ -107,7 +109,7 @@ fn name_mix(s: &[u8]) -> u64
     if 4 <= n {
         return join(
             n as u64,
-            octets::word(s, 0) as u64 + HALF * (octets::word(s, n - 4) as u64),
+            octets::word(s, 0) as u64 + HALF_RANGE * (octets::word(s, n - 4) as u64),
         );
     }
     join(
@@ -116,16 +118,25 @@ fn name_mix(s: &[u8]) -> u64
     )
 }
 
+// Where an address stands in its block of 16 columns and 16 rows.
+fn in_block(c: u64, r: u64) -> u64
+    ensures { λ s. ⌜ (s ≡ inBlock c r) × (s < mixRange) ⌝ }
+{
+    (r % SIDE * SIDE + c % SIDE) * 65537
+}
+
 // A name and three numbers, by their patterns.
 pub fn mix_of(names: &[u8], x: Name, z: u64, c: u64, r: u64) -> usize
-    ensures { λ y. ⌜ (y ≡ keyMix (spell (now (names .entry)) x, signed z, signed c, signed r)) × (y < 4294967296) ⌝ }
+    ensures { λ y. ⌜ (y ≡ keyMix (spell (now (names .entry)) x, signed z, signed c, signed r)) × (y < mixRange) ⌝ }
 {
-    stir(sum(name_mix(octets::spelled(names, x)), z, c, r)) as usize
+    let named = name_mix(octets::spelled(names, x));
+    let block = stir(named ^ sum(z, c / SIDE, r / SIDE));
+    ((block + in_block(c, r)) % HALF_RANGE) as usize
 }
 
 // The mix of a key.
 pub fn mix(names: &[u8], key: Key) -> usize
-    ensures { λ y. ⌜ (y ≡ keyMix (meaning (now (names .entry)) key)) × (y < 4294967296) ⌝ }
+    ensures { λ y. ⌜ (y ≡ keyMix (meaning (now (names .entry)) key)) × (y < mixRange) ⌝ }
 {
     match key {
         Key::Address {

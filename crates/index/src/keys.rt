@@ -1,9 +1,13 @@
 // Keys as the code has them: of a row, and whether a row answers to one.
 ghost use mathlib.Core.Path.{_≡_};
 ghost use Rattle.octets.specs.Search.{first};
-ghost use Rattle.index.specs.Keys.{rowCount, keyOf, answers, sure, kindOf, meaning};
+ghost use Rattle.index.specs.Keys.{rowCount, keyOf, answersTo, sure, kindOf, meaning};
 use crate::Key;
 use crate::Kind;
+use listing::ContentsTable;
+use listing::MatrixTable;
+use listing::SetTable;
+use listing::TileTable;
 use seek::ContentTest;
 use seek::MatrixTest;
 use seek::SetTest;
@@ -14,12 +18,12 @@ pub fn count(rows: &[u8], kind: Kind) -> usize
     ensures { λ r. ⌜ r ≡ rowCount kind (now (rows .entry)) ⌝ }
 {
     match kind {
-        Kind::Address => rows.len() / 32,
-        Kind::TileName => rows.len() / 32,
-        Kind::Level => rows.len() / 64,
-        Kind::MatrixName => rows.len() / 64,
-        Kind::TilesName => rows.len() / 40,
-        Kind::SetName => rows.len() / 48,
+        Kind::Address => rows.len() / (TileTable::ROW as usize),
+        Kind::TileName => rows.len() / (TileTable::ROW as usize),
+        Kind::Level => rows.len() / (MatrixTable::ROW as usize),
+        Kind::MatrixName => rows.len() / (MatrixTable::ROW as usize),
+        Kind::TilesName => rows.len() / (ContentsTable::ROW as usize),
+        Kind::SetName => rows.len() / (SetTable::ROW as usize),
     }
 }
 
@@ -77,7 +81,7 @@ pub fn key_at(rows: &[u8], names: &[u8], kind: Kind, k: usize) -> Key
 
 // Whether row k answers to a key.
 pub fn does_answer(rows: &[u8], names: &[u8], key: Key, k: usize) -> bool
-    ensures { λ r. ⌜ r ≡ answers (kindOf key) (now (rows .entry)) (now (names .entry)) (meaning (now (names .entry)) key) k ⌝ }
+    ensures { λ r. ⌜ r ≡ answersTo (now (rows .entry)) (now (names .entry)) key k ⌝ }
 {
     match key {
         Key::Address {
@@ -130,7 +134,7 @@ fn is_sure(kind: Kind) -> bool
 // Whether row k, which has that key, answers to it.
 pub fn answers_itself(rows: &[u8], names: &[u8], key: Key, k: usize) -> bool
     requires { ⌜ meaning (now names) key ≡ keyOf (kindOf key) (now rows) (now names) k ⌝ }
-    ensures { λ r. ⌜ r ≡ answers (kindOf key) (now (rows .entry)) (now (names .entry)) (meaning (now (names .entry)) key) k ⌝ }
+    ensures { λ r. ⌜ r ≡ answersTo (now (rows .entry)) (now (names .entry)) key k ⌝ }
 {
     if is_sure(kind_of(key)) {
         return true;
@@ -140,7 +144,7 @@ pub fn answers_itself(rows: &[u8], names: &[u8], key: Key, k: usize) -> bool
 
 // The lowest of the first n rows that answers to a key, or n: the plain way, where there is no index.
 pub fn first_answer(rows: &[u8], names: &[u8], key: Key, n: usize) -> usize
-    ensures { λ r. ⌜ r ≡ first (answers (kindOf key) (now (rows .entry)) (now (names .entry)) (meaning (now (names .entry)) key)) n ⌝ }
+    ensures { λ r. ⌜ r ≡ first (answersTo (now (rows .entry)) (now (names .entry)) key) n ⌝ }
 {
     let mut i = 0;
     while i < n {

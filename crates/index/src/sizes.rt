@@ -2,29 +2,28 @@
 ghost use mathlib.Core.Path.{_≡_};
 ghost use Prim.Native.Nat.{_/_};
 ghost use mathlib.Core.Bool.{true, cond};
-ghost use lib.ListN.{length};
 ghost use Rattle.octets.specs.Search.{first};
-ghost use Rattle.pack.specs.Tables.{matrixOf, matricesOf};
-ghost use Rattle.rules.specs.Matrices.{breaks531};
 ghost use Rattle.index.specs.declared.Kind.the-variants.{MatrixName};
-ghost use Rattle.index.specs.Keys.{Shelves};
+ghost use Rattle.index.specs.Chains.{rowRange};
+ghost use Rattle.index.specs.Keys.{rowCount, breaking531, Shelves};
 use crate::hashes;
 use crate::work;
+use listing::MatrixTable;
 use pack::MatrixRow;
 
 fn better_531(
     matrices: &[u8],
     names: &[u8],
     q: MatrixRow,
-    p: usize,
+    print: usize,
     x: usize,
     k: usize,
     best: usize,
 ) -> usize
-    requires { ⌜ (breaks531 (matrixOf (now names) q) (matricesOf (now matrices) (now names) .row k) ≡ true → x / 524288 ≡ p) ⌝ }
-    ensures { λ r. ⌜ r ≡ cond (breaks531 (matrixOf (now (names .entry)) q) (matricesOf (now (matrices .entry)) (now (names .entry)) .row k)) k best ⌝ }
+    requires { ⌜ (breaking531 (now matrices) (now names) q k ≡ true → x / rowRange ≡ print) ⌝ }
+    ensures { λ r. ⌜ r ≡ cond (breaking531 (now (matrices .entry)) (now (names .entry)) q k) k best ⌝ }
 {
-    if x / 524288 != p {
+    if x / work::ROW_RANGE != print {
         return best;
     }
     if seek::breaks_531(names, q, pack::matrix_at(matrices, k)) {
@@ -33,9 +32,9 @@ fn better_531(
     best
 }
 
-// Among the first n rows, one after the other.
+// The lowest of the first n rows that does, met one after the other, or n.
 fn first_531(matrices: &[u8], names: &[u8], q: MatrixRow, n: usize) -> usize
-    ensures { λ r. ⌜ r ≡ first (λ k. breaks531 (matrixOf (now (names .entry)) q) (matricesOf (now (matrices .entry)) (now (names .entry)) .row k)) n ⌝ }
+    ensures { λ r. ⌜ r ≡ first (breaking531 (now (matrices .entry)) (now (names .entry)) q) n ⌝ }
 {
     let mut i = 0;
     while i < n {
@@ -49,25 +48,25 @@ fn first_531(matrices: &[u8], names: &[u8], q: MatrixRow, n: usize) -> usize
 }
 
 // Where the middle row has the name, most rows may: then they are met one after the other, which is quicker than along a chain.
-pub fn lowest_531(matrices: &[u8], names: &[u8], work: &[u8], m: usize, q: MatrixRow) -> usize
-    requires { ⌜ Shelves MatrixName (now matrices) (now names) (now work) m (length (now matrices) / 64) ⌝ }
-    ensures { λ r. ⌜ r ≡ first (λ k. breaks531 (matrixOf (now (names .entry)) q) (matricesOf (now (matrices .entry)) (now (names .entry)) .row k)) (length (now (matrices .entry)) / 64) ⌝ }
+pub fn lowest_531(matrices: &[u8], names: &[u8], work: &[u8], heads: usize, q: MatrixRow) -> usize
+    requires { ⌜ Shelves MatrixName (now matrices) (now names) (now work) heads (rowCount MatrixName (now matrices)) ⌝ }
+    ensures { λ r. ⌜ r ≡ first (breaking531 (now (matrices .entry)) (now (names .entry)) q) (rowCount MatrixName (now (matrices .entry))) ⌝ }
 {
-    let n = matrices.len() / 64;
-    if m == 0 {
+    let n = matrices.len() / (MatrixTable::ROW as usize);
+    if heads == 0 {
         return first_531(matrices, names, q, n);
     }
     if pack::matrix_at(matrices, n / 2).name.start == q.name.start {
         return first_531(matrices, names, q, n);
     }
-    let y = hashes::mix_of(names, q.name, 0, 0, 0);
-    let p = work::print(y);
+    let mix = hashes::mix_of(names, q.name, 0, 0, 0);
+    let print = work::print(mix);
     let mut best = n;
-    let mut x = work::word_at(work, work::place(m, y));
+    let mut x = work::word_at(work, work::place(heads, mix));
     while x != 0 {
-        let k = x % 524288 - 1;
-        best = better_531(matrices, names, q, p, x, k, best);
-        x = work::word_at(work, m + k);
+        let k = x % work::ROW_RANGE - 1;
+        best = better_531(matrices, names, q, print, x, k, best);
+        x = work::word_at(work, heads + k);
     }
     best
 }

@@ -1,19 +1,19 @@
 -- `index::addresses/walk_address` meets its contract.
 use Prim.Native.Nat.{_%_}
 use native.Mathlib.Omega.{arith}
-use Rattle.index.specs.declared.Kind.the-variants.{Address}
-use Rattle.index.specs.Keys.{answers, addressOf}
+use Rattle.index.specs.Chains.{rowRange}
 use Rattle.index.specs.Work.{placeOf, printOf}
+use Rattle.index.specs.Keys.{addressed}
 use Rattle.index.proofs.Walks.{Walking, leads-some, leads-room, walking-row, walking-print, walks}
 use borrow.Author.Needs.{needs}
 use Rattle.index.proofs.addresses.walk_address.Statement.{statement}
 use Rattle.index.proofs.addresses.walk_address.Tie as tie
 
 abbrev Inv-loop : tie.InvT-loop
-Inv-loop tiles names work m y a n p x₀ x = Walking (answers Address tiles names (addressOf names a)) work m (placeOf m y) (printOf y) n x
+Inv-loop tiles names work heads mix a n print x₀ x = Walking (addressed tiles names a) work heads (placeOf heads mix) (printOf mix) n x
 
 abbrev μ-loop : tie.MeasureT-loop
-μ-loop tiles names work m y a n p x₀ x = x % 524288
+μ-loop tiles names work heads mix a n print x₀ x = x % rowRange
 
 pub walk-address-spec : {M : Type 1} → statement M
 walk-address-spec =

@@ -11,10 +11,10 @@ use Rattle.index.proofs.entries.index_all.Statement.{statement}
 use Rattle.index.proofs.entries.index_all.Tie as tie
 
 abbrev Inv-loop : tie.InvT-loop
-Inv-loop rows names work₀ kind n m i₀ work i = (i ≤ n) × Indexes kind rows names work m i × (length work ≡ length work₀)
+Inv-loop rows names work₀ kind n heads i₀ work i = (i ≤ n) × Indexes kind rows names work heads i × (length work ≡ length work₀)
 
 abbrev μ-loop : tie.MeasureT-loop
-μ-loop rows names work₀ kind n m i₀ work i = n - i
+μ-loop rows names work₀ kind n heads i₀ work i = n - i
 
 pub index-all-spec : {M : Type 1} → statement M
 index-all-spec =

@@ -1,18 +1,19 @@
 -- `index::entries/walk` meets its contract.
 use Prim.Native.Nat.{_%_}
 use native.Mathlib.Omega.{arith}
-use Rattle.index.specs.Keys.{answers, kindOf, meaning}
+use Rattle.index.specs.Chains.{rowRange}
 use Rattle.index.specs.Work.{placeOf, printOf}
+use Rattle.index.specs.Keys.{answersTo}
 use Rattle.index.proofs.Walks.{Walking, leads-some, leads-room, walking-row, walking-print, walks}
 use borrow.Author.Needs.{needs}
 use Rattle.index.proofs.entries.walk.Statement.{statement}
 use Rattle.index.proofs.entries.walk.Tie as tie
 
 abbrev Inv-loop : tie.InvT-loop
-Inv-loop rows names work m y key n p x₀ x = Walking (answers (kindOf key) rows names (meaning names key)) work m (placeOf m y) (printOf y) n x
+Inv-loop rows names work heads mix key n print x₀ x = Walking (answersTo rows names key) work heads (placeOf heads mix) (printOf mix) n x
 
 abbrev μ-loop : tie.MeasureT-loop
-μ-loop rows names work m y key n p x₀ x = x % 524288
+μ-loop rows names work heads mix key n print x₀ x = x % rowRange
 
 pub walk-spec : {M : Type 1} → statement M
 walk-spec =

@@ -12,7 +12,6 @@ unfolding stirred
 stir-spec =
     tie.close
     (tie.spec (λ c κs. search needs)
-    (λ c κs. search needs)
-    (λ c. omega arith)
-    (λ c. record { fits = mul-lt _ _ (c .before .low .ensures .1) (omega arith) })
-    (λ c. (simp (c .before .low .ensures .0, c .high .ensures .0), mod-lt _ (omega arith))))
+    (λ c. search needs)
+    (λ c. record { fits = mul-lt _ _ (c .low .ensures .1) (omega arith) })
+    (λ c. (simp (c .low .ensures .0), mod-lt _ (omega arith))))

@@ -1,5 +1,4 @@
 -- `index::hashes/sum` meets its contract.
-use native.Mathlib.Omega.{arith}
 use Rattle.index.specs.Hashes.{sumOf}
 use borrow.Author.Needs.{needs}
 use Rattle.index.proofs.hashes.sum.Statement.{statement}
@@ -26,10 +25,4 @@ sum-spec =
     (λ c κs. search needs)
     (λ c. search needs)
     (λ c. search needs)
-    (λ c κs. search needs)
-    (λ c. search needs)
-    (λ c. search needs)
-    (λ c κs. search needs)
-    (λ c. search needs)
-    (λ c. search needs)
-    (λ c. ((cc), omega arith)))
+    (λ c. cc))

@@ -14,6 +14,8 @@ find-level-spec =
     (tie.spec (λ c κs. search needs)
     (λ c. search needs)
     (λ c κs. search needs)
+    (λ c. search needs)
+    (λ c. search needs)
     (λ c κs.
     let args = c .before .before .before .before .before .args in
     let pre = c .before .before .before .before .before .pre in

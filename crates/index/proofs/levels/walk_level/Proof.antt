@@ -1,21 +1,19 @@
 -- `index::levels/walk_level` meets its contract.
 use Prim.Native.Nat.{_%_}
 use native.Mathlib.Omega.{arith}
-use Rattle.octets.specs.Numbers.{signed}
-use Rattle.octets.specs.Texts.{spell}
-use Rattle.pack.specs.Tables.{matricesOf}
-use Rattle.rules.specs.Matrices.{atLevel}
+use Rattle.index.specs.Chains.{rowRange}
 use Rattle.index.specs.Work.{placeOf, printOf}
+use Rattle.index.specs.Keys.{leveled}
 use Rattle.index.proofs.Walks.{Walking, leads-some, leads-room, walking-row, walking-print, walks}
 use borrow.Author.Needs.{needs}
 use Rattle.index.proofs.levels.walk_level.Statement.{statement}
 use Rattle.index.proofs.levels.walk_level.Tie as tie
 
 abbrev Inv-loop : tie.InvT-loop
-Inv-loop matrices names work m y name zoom n p x₀ x = Walking (λ k. atLevel (spell names name) (signed zoom) (matricesOf matrices names .row k)) work m (placeOf m y) (printOf y) n x
+Inv-loop matrices names work heads mix name zoom n print x₀ x = Walking (leveled matrices names name zoom) work heads (placeOf heads mix) (printOf mix) n x
 
 abbrev μ-loop : tie.MeasureT-loop
-μ-loop matrices names work m y name zoom n p x₀ x = x % 524288
+μ-loop matrices names work heads mix name zoom n print x₀ x = x % rowRange
 
 pub walk-level-spec : {M : Type 1} → statement M
 walk-level-spec =

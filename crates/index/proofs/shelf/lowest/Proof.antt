@@ -1,12 +1,11 @@
 -- `index::shelf/lowest` meets its contract.
-use Prim.Native.Nat.{_/_, _%_}
+use Prim.Native.Nat.{_%_}
 use mathlib.Core.Path.{refl, ap, _∙_}
 use native.Mathlib.Omega.{arith}
-use lib.ListN.{length}
-use Rattle.pack.specs.Tables.{matricesOf}
-use Rattle.seek.specs.Tests.{matrixPasses}
+use Rattle.index.specs.Chains.{rowRange}
 use Rattle.index.specs.Hashes.{keyMix}
 use Rattle.index.specs.Work.{placeOf, printOf}
+use Rattle.index.specs.Keys.{passing}
 use Rattle.index.proofs.Entering.{keyed-heads}
 use Rattle.index.proofs.Shelving.{Shelving, shelf-of, shelving-start, shelving-row, shelving-print, shelvings}
 use borrow.Author.Needs.{needs}
@@ -14,16 +13,18 @@ use Rattle.index.proofs.shelf.lowest.Statement.{statement}
 use Rattle.index.proofs.shelf.lowest.Tie as tie
 
 abbrev Inv-loop : tie.InvT-loop
-Inv-loop matrices names work m test n y p best₀ x₀ best x = Shelving (λ k. matrixPasses names test (matricesOf matrices names .row k)) work m (placeOf m y) (printOf y) n x best
+Inv-loop matrices names work heads test n mix print best₀ x₀ best x = Shelving (passing matrices names test) work heads (placeOf heads mix) (printOf mix) n x best
 
 abbrev μ-loop : tie.MeasureT-loop
-μ-loop matrices names work m test n y p best₀ x₀ best x = x % 524288
+μ-loop matrices names work heads test n mix print best₀ x₀ best x = x % rowRange
 
 pub lowest-spec : {M : Type 1} → statement M
 lowest-spec =
     tie.close
     (tie.spec Inv-loop
     μ-loop
+    (λ c. search needs)
+    (λ c. search needs)
     (λ c κs. search needs)
     (λ c. search needs)
     (λ c κs. search needs)

@@ -13,16 +13,18 @@ use Rattle.index.proofs.shelf.shelve.Statement.{statement}
 use Rattle.index.proofs.shelf.shelve.Tie as tie
 
 abbrev Inv-loop : tie.InvT-loop
-Inv-loop matrices names work₀ kind n m i₀ work i = (i ≤ n) × Shelves kind matrices names work m i × (length work ≡ length work₀)
+Inv-loop matrices names work₀ kind n heads i₀ work i = (i ≤ n) × Shelves kind matrices names work heads i × (length work ≡ length work₀)
 
 abbrev μ-loop : tie.MeasureT-loop
-μ-loop matrices names work₀ kind n m i₀ work i = n - i
+μ-loop matrices names work₀ kind n heads i₀ work i = n - i
 
 pub shelve-spec : {M : Type 1} → statement M
 shelve-spec =
     tie.close
     (tie.spec Inv-loop
     μ-loop
+    (λ c. search needs)
+    (λ c. search needs)
     (λ c κs. search needs)
     (λ c. search needs)
     (λ c. keyed-none (c .if1 .taken))

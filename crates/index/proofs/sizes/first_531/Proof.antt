@@ -1,14 +1,13 @@
 -- `index::sizes/first_531` meets its contract.
 use Prim.Native.Nat.{_-_}
 use Rattle.octets.specs.SearchLaws.{Seeking, seeks}
-use Rattle.pack.specs.Tables.{matrixOf, matricesOf}
-use Rattle.rules.specs.Matrices.{breaks531}
+use Rattle.index.specs.Keys.{breaking531}
 use borrow.Author.Needs.{needs}
 use Rattle.index.proofs.sizes.first_531.Statement.{statement}
 use Rattle.index.proofs.sizes.first_531.Tie as tie
 
 abbrev Inv-loop : tie.InvT-loop
-Inv-loop matrices names q n i₀ i = Seeking (λ k. breaks531 (matrixOf names q) (matricesOf matrices names .row k)) i n
+Inv-loop matrices names q n i₀ i = Seeking (breaking531 matrices names q) i n
 
 abbrev μ-loop : tie.MeasureT-loop
 μ-loop matrices names q n i₀ i = n - i

@@ -2,10 +2,10 @@
 use Prim.Native.Nat.{_%_}
 use mathlib.Core.Path.{refl, ap, _∙_}
 use native.Mathlib.Omega.{arith}
-use Rattle.pack.specs.Tables.{matrixOf, matricesOf}
-use Rattle.rules.specs.Matrices.{breaks531}
+use Rattle.index.specs.Chains.{rowRange}
 use Rattle.index.specs.Hashes.{keyMix}
 use Rattle.index.specs.Work.{placeOf, printOf}
+use Rattle.index.specs.Keys.{breaking531}
 use Rattle.index.proofs.Entering.{keyed-heads}
 use Rattle.index.proofs.KeyLaws.{named-531}
 use Rattle.index.proofs.Shelving.{Shelving, shelf-of, shelving-start, shelving-row, shelving-print, shelvings}
@@ -14,16 +14,18 @@ use Rattle.index.proofs.sizes.lowest_531.Statement.{statement}
 use Rattle.index.proofs.sizes.lowest_531.Tie as tie
 
 abbrev Inv-loop : tie.InvT-loop
-Inv-loop matrices names work m q n y p best₀ x₀ best x = Shelving (λ k. breaks531 (matrixOf names q) (matricesOf matrices names .row k)) work m (placeOf m y) (printOf y) n x best
+Inv-loop matrices names work heads q n mix print best₀ x₀ best x = Shelving (breaking531 matrices names q) work heads (placeOf heads mix) (printOf mix) n x best
 
 abbrev μ-loop : tie.MeasureT-loop
-μ-loop matrices names work m q n y p best₀ x₀ best x = x % 524288
+μ-loop matrices names work heads q n mix print best₀ x₀ best x = x % rowRange
 
 pub lowest-531-spec : {M : Type 1} → statement M
 lowest-531-spec =
     tie.close
     (tie.spec Inv-loop
     μ-loop
+    (λ c. search needs)
+    (λ c. search needs)
     (λ c κs. search needs)
     (λ c. search needs)
     (λ c κs. search needs)

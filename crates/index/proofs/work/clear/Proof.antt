@@ -10,10 +10,10 @@ use Rattle.index.proofs.work.clear.Statement.{statement}
 use Rattle.index.proofs.work.clear.Tie as tie
 
 abbrev Inv-loop : tie.InvT-loop
-Inv-loop w₀ m end k₀ w k = (length w ≡ length w₀) × (k ≤ end) × ((j : ℕ) → j < k → getD w j 0 ≡ 0)
+Inv-loop w₀ heads end k₀ w k = (length w ≡ length w₀) × (k ≤ end) × ((j : ℕ) → j < k → getD w j 0 ≡ 0)
 
 abbrev μ-loop : tie.MeasureT-loop
-μ-loop w₀ m end k₀ w k = end - k
+μ-loop w₀ heads end k₀ w k = end - k
 
 pub clear-spec : {M : Type 1} → statement M
 clear-spec =
@@ -33,4 +33,4 @@ clear-spec =
       below-more _ _ (λ j b. getD-set-other w k j 0 0 (λ q. omega arith) ∙ c .before .loop .inv .2 j b) (getD-set-same w k 0 0 (omega arith)),
     ))
     (λ c. omega arith)
-    (λ c. λ h b. word-zero (c .before .loop .w) h (c .before .before .args .m) b (omega arith) (λ j l. c .before .loop .inv .2 j (omega arith))))
+    (λ c. λ h b. word-zero (c .before .loop .w) h (c .before .before .args .heads) b (omega arith) (λ j l. c .before .loop .inv .2 j (omega arith))))

@@ -11,6 +11,7 @@ heads-for-spec =
     tie.close
     (tie.spec (λ c. search needs)
     (λ c. search needs)
+    (λ c. search needs)
     (λ c. simp (lt-ltb _ _ (c .before .before .if1 .taken), lt-ltb _ _ (c .before .if2 .taken), lt-ltb _ _ (c .if3 .taken)))
     (λ c. simp (lt-ltb _ _ (c .before .before .if1 .taken), lt-ltb _ _ (c .before .if2 .taken), le-ltb _ _ (c .if3 .left)))
     (λ c. simp (lt-ltb _ _ (c .before .if1 .taken), le-ltb _ _ (c .if2 .left)))
