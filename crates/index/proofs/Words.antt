@@ -88,6 +88,27 @@ word-zero w h m b l z =
     simp (le-leb (4 * h + 4) (length w) (omega arith))
     (rw (z (4 * h) (omega arith), z (4 * h + 1) (omega arith), z (4 * h + 2) (omega arith), z (4 * h + 3) (omega arith)))
 
+-- ---- the words of a row that is pushed
+module _ (w : List ℕ) (m h y i : ℕ) (below : h < m) (room : 4 * (m + i) + 4 ≤ length w) where
+  -- the head of its chain is the row and one, with its print
+  pushed-head : suc i + rowRange * printOf y < 4294967296 → wordAt (pushed w m h y i) h ≡ suc i + rowRange * printOf y
+  unfolding pushed
+  pushed-head s = word-same _ h _ (simp length-put (omega arith)) (omega arith) ∙ omega arith
+
+  -- its link is the head that the chain had
+  pushed-link : wordAt w h < 4294967296 → wordAt (pushed w m h y i) (m + i) ≡ wordAt w h
+  unfolding pushed
+  pushed-link s = word-other _ h (m + i) _ (λ q. omega arith) ∙ word-same w (m + i) _ room s
+
+  -- every other word stays
+  pushed-other : (j : ℕ) → (j ≡ h → ⊥) → (j ≡ m + i → ⊥) → wordAt (pushed w m h y i) j ≡ wordAt w j
+  unfolding pushed
+  pushed-other j a b = word-other _ h j _ a ∙ word-other w (m + i) j _ b
+
+  pushed-length : length (pushed w m h y i) ≡ length w
+  unfolding pushed
+  pushed-length = simp length-put
+
 -- ---- the index in these words
 module _ (fits : ℕ → ℕ → Bool) (hash print : ℕ → ℕ) (w : List ℕ) (m rows : ℕ) where
   pub indexed-none : 0 < m → m < mixRange → 4 * (m + rows) ≤ length w → rows < rowRange - 1 → ((h : ℕ) → h < m → wordAt w h ≡ 0) → Indexed fits hash print w m rows 0
@@ -109,29 +130,23 @@ module _ (fits : ℕ → ℕ → Bool) (hash print : ℕ → ℕ) (w : List ℕ)
 
     pub indexed-new : ((k : ℕ) → print k < printRange) → i < rows → isEntry fits i ≡ true → (h y : ℕ) → h ≡ hash i → printOf y ≡ print i → h < m
         → Indexed fits hash print (pushed w m h y i) m rows (i + 1)
-    unfolding pushed marked
+    unfolding marked
     indexed-new pb c o h y e p l = record {
       some = x .some;
       few = x .few;
-      room = simp length-put (x .room);
+      room = rw (pushed-length w m h y i l fits-in) (x .room);
       small = x .small;
-      index = subst (λ (q : ℕ). Index fits hash print m (wordAt w2) (λ k. wordAt w2 (m + k)) q) (sym (add-one i))
-          (index-new fits hash print m (wordAt w) (λ k. wordAt w (m + k)) (wordAt w2) (λ k. wordAt w2 (m + k)) i
+      index = rw add-one
+          (index-new fits hash print m (wordAt w) (λ k. wordAt w (m + k)) (wordAt (pushed w m h y i)) (λ k. wordAt (pushed w m h y i) (m + k)) i
           (x .index) o (rw e at l)
-          (rw (← e) (word-same w1 h v (simp length-put (omega (arith, x .room))) (omega (arith, x .small, pb i, p)) ∙ omega (arith, p)))
-          (λ g b q. word-other w1 h g v (λ r. q (r ∙ e)) ∙ word-other w (m + i) g (wordAt w h) (λ r. omega arith))
-          (rw (← e) (word-other w1 h (m + i) v (λ r. omega arith) ∙ word-same w (m + i) (wordAt w h) (omega (arith, x .room)) (head-small pb c h l)))
-          (λ k b. word-other w1 h (m + k) v (λ r. omega arith) ∙ word-other w (m + i) (m + k) (wordAt w h) (λ r. omega arith)));
+          (rw (← e) (pushed-head w m h y i l fits-in (omega (arith, x .small, pb i, p)) ∙ omega (arith, p)))
+          (λ g b q. pushed-other w m h y i l fits-in g (λ r. q (r ∙ e)) (λ r. omega arith))
+          (rw (← e) (pushed-link w m h y i l fits-in (head-small pb c h l)))
+          (λ k b. pushed-other w m h y i l fits-in (m + k) (λ r. omega arith) (λ r. omega arith)));
     }
       where
-        v : ℕ
-        v = i + 1 + rowRange * printOf y
-
-        w1 : List ℕ
-        w1 = putWord w (m + i) (wordAt w h)
-
-        w2 : List ℕ
-        w2 = putWord w1 h v
+        fits-in : 4 * (m + i) + 4 ≤ length w
+        fits-in = omega (arith, x .room)
 
 -- ---- how many heads
 -- where there are some, they and the links have room, and a row and one has 19 bits

@@ -122,3 +122,7 @@ Shelves s t names w m n = Keyed (λ k. k) eqb (λ k. keyMix (keyOf s t names k))
 -- a test that only rows with the key a pass
 pub record Confines (s : Kind) (t names : List ℕ) (a : (List ℕ × ℤ × ℤ × ℤ)) (test : ℕ → Bool) : Type 0 where
   pub within : (k : ℕ) → test k ≡ true → a ≡ keyOf s t names k
+
+-- a test of matrices that only rows with a key pass
+abbrev pub KeyConfines : List ℕ → List ℕ → Key → MatrixTest → Type 0
+KeyConfines t names a test = Confines (kindOf a) t names (meaning names a) (passing t names test)

@@ -57,8 +57,7 @@ fn walk_address(
 
 // Enters row i, and answers the lowest row below it with its address, or i.
 pub fn enter_address(tiles: &[u8], names: &[u8], work: &mut [u8], heads: usize, i: usize) -> usize
-    requires { ⌜ Indexes Address (now tiles) (now names) (now work) heads i ⌝ }
-    requires { ⌜ i < rowCount Address (now tiles) ⌝ }
+    requires { ⌜ Indexes Address (now tiles) (now names) (now work) heads i × (i < rowCount Address (now tiles)) ⌝ }
     ensures { λ r. ⌜ Enters Address (now (tiles .entry)) (now (names .entry)) (now (work .exit)) heads i r ⌝ }
 {
     if heads == 0 {

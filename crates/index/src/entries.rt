@@ -58,8 +58,7 @@ pub fn enter(
     kind: Kind,
     i: usize,
 ) -> usize
-    requires { ⌜ Indexes kind (now rows) (now names) (now work) heads i ⌝ }
-    requires { ⌜ i < rowCount kind (now rows) ⌝ }
+    requires { ⌜ Indexes kind (now rows) (now names) (now work) heads i × (i < rowCount kind (now rows)) ⌝ }
     ensures { λ r. ⌜ Enters kind (now (rows .entry)) (now (names .entry)) (now (work .exit)) heads i r ⌝ }
 {
     let key = keys::key_at(rows, names, kind, i);

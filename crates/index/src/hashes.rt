@@ -89,8 +89,7 @@ fn word_count(n: usize) -> usize
 }
 
 fn words_mix(s: &[u8], words: usize) -> u64
-    requires { ⌜ 8 * words ≤ length (now s) + 7 ⌝ }
-    requires { ⌜ 8 ≤ length (now s) ⌝ }
+    requires { ⌜ (8 ≤ length (now s)) × (8 * words ≤ length (now s) + 7) ⌝ }
     ensures { λ r. ⌜ r ≡ wordsMix (now (s .entry)) words ⌝ }
 {
     let front = words / 2;

@@ -5,7 +5,7 @@ ghost use mathlib.Core.Bool.{true, cond};
 ghost use Rattle.octets.specs.Search.{first};
 ghost use Rattle.index.specs.declared.Kind.the-variants.{MatrixName};
 ghost use Rattle.index.specs.Chains.{rowRange};
-ghost use Rattle.index.specs.Keys.{rowCount, kindOf, meaning, passing, Shelves, Confines};
+ghost use Rattle.index.specs.Keys.{rowCount, kindOf, passing, Shelves, KeyConfines};
 use crate::Key;
 use crate::Kind;
 use crate::hashes;
@@ -65,7 +65,7 @@ pub fn lowest(
     test: MatrixTest,
 ) -> usize
     requires { ⌜ Shelves (kindOf key) (now matrices) (now names) (now work) heads (rowCount MatrixName (now matrices)) ⌝ }
-    requires { ⌜ Confines (kindOf key) (now matrices) (now names) (meaning (now names) key) (passing (now matrices) (now names) test) ⌝ }
+    requires { ⌜ KeyConfines (now matrices) (now names) key test ⌝ }
     ensures { λ r. ⌜ r ≡ first (passing (now (matrices .entry)) (now (names .entry)) test) (rowCount MatrixName (now (matrices .entry))) ⌝ }
 {
     let n = matrices.len() / (MatrixTable::ROW as usize);

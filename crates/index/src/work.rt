@@ -5,7 +5,7 @@ ghost use lib.ListN.{length};
 ghost use Rattle.index.specs.Chains.{printRange};
 ghost use Rattle.index.specs.Work.{mixRange, wordAt, putWord, placeOf, printOf, pushed, settled, headsFor, Ready};
 
-// A word of the index is a row and one, below ROW_RANGE, and above it the print of the row's key, 13 bits below PRINT_RANGE. 0 is none.
+// A word of the index is a row and one, which is below ROW_RANGE, and above it the print of the row's key, of 13 bits. 0 is none.
 pub const ROW_RANGE: usize = 524288;
 
 const PRINT_RANGE: usize = 8192;
