@@ -59,17 +59,17 @@ nameMix x =
 abbrev pub pattern : ℤ → ℕ
 pattern z = ofZ w64 z
 
--- 16 columns of 16 rows are a block
+-- 16 columns of 16 rows of 16 levels are a block
 abbrev pub side : ℕ
 side = 16
 
--- where an address stands in its block, in steps that are some heads wide: tiles next to each other have heads next to each other, which is quick
-unfoldable pub inBlock : ℕ → ℕ → ℕ
-inBlock c r = (r % side * side + c % side) * 65537
+-- where an address stands in its block, at even steps: tiles next to each other have heads that are near, which is quick
+unfoldable pub inBlock : ℕ → ℕ → ℕ → ℕ
+inBlock z c r = ((z % side * side + r % side) * side + c % side) * 65537
 
--- the mix of a name and three patterns: a block's is as good as drawn
+-- the mix of a name and three patterns: that of a block is as good as drawn
 unfoldable pub mixed : List ℕ → ℕ → ℕ → ℕ → ℕ
-mixed x z c r = (stirred (bitXor (nameMix x) (sumOf z (c / side) (r / side))) + inBlock c r) % mixRange
+mixed x z c r = (stirred (bitXor (nameMix x) (sumOf (z / side) (c / side) (r / side))) + inBlock z c r) % mixRange
 
 -- the mix of a key, from which its place among the heads and its print are taken
 unfoldable pub keyMix : (List ℕ × ℤ × ℤ × ℤ) → ℕ

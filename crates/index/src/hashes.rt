@@ -13,7 +13,7 @@ use octets::Name;
 // Half a pattern is below this.
 const HALF_RANGE: u64 = 4294967296;
 
-// How many columns and rows a block has.
+// How many columns, rows and levels a block has.
 const SIDE: u64 = 16;
 
 // The octet at any place, 0 past the end.
@@ -117,11 +117,11 @@ fn name_mix(s: &[u8]) -> u64
     )
 }
 
-// Where an address stands in its block of 16 columns and 16 rows.
-fn in_block(c: u64, r: u64) -> u64
-    ensures { λ s. ⌜ (s ≡ inBlock c r) × (s < mixRange) ⌝ }
+// Where an address stands in its block.
+fn in_block(z: u64, c: u64, r: u64) -> u64
+    ensures { λ s. ⌜ (s ≡ inBlock z c r) × (s < mixRange) ⌝ }
 {
-    (r % SIDE * SIDE + c % SIDE) * 65537
+    ((z % SIDE * SIDE + r % SIDE) * SIDE + c % SIDE) * 65537
 }
 
 // A name and three numbers, by their patterns.
@@ -129,8 +129,8 @@ pub fn mix_of(names: &[u8], x: Name, z: u64, c: u64, r: u64) -> usize
     ensures { λ y. ⌜ (y ≡ keyMix (spell (now (names .entry)) x, signed z, signed c, signed r)) × (y < mixRange) ⌝ }
 {
     let named = name_mix(octets::spelled(names, x));
-    let block = stir(named ^ sum(z, c / SIDE, r / SIDE));
-    ((block + in_block(c, r)) % HALF_RANGE) as usize
+    let block = stir(named ^ sum(z / SIDE, c / SIDE, r / SIDE));
+    ((block + in_block(z, c, r)) % HALF_RANGE) as usize
 }
 
 // The mix of a key.

@@ -13,4 +13,6 @@ in-block-spec =
     (tie.spec (λ c. search needs)
     (λ c. search needs)
     (λ c. search needs)
+    (λ c. search needs)
+    (λ c. search needs)
     (λ c. (refl, omega arith)))
