@@ -29,7 +29,7 @@ joined h x = lower (bitXor h x) * 1266295873 + upper (bitXor h x) * 1126869067
 unfoldable pub sumOf : ℕ → ℕ → ℕ → ℕ
 sumOf z c r = lower z * 688268543 + upper z * 675917051 + lower c * 726027349 + upper c * 598323107 + lower r * 659491247 + upper r * 619448981
 
--- a pattern stirred down to a mix: the middle of a product of its halves, in which every digit of both has a part
+-- a pattern stirred down to a mix: the middle of the product of its lower half and of its upper 31 digits, with a 1 before them so that it is never small
 unfoldable pub stirred : ℕ → ℕ
 stirred x = lower x * (x / 8589934592 + 2147483648) / 65536 % mixRange
 

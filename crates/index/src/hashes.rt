@@ -47,15 +47,15 @@ fn join(h: u64, x: u64) -> u64
     low(both) * 1266295873 + high(both) * 1126869067
 }
 
-fn sum(z: u64, c: u64, r: u64) -> u64
-    ensures { λ s. ⌜ s ≡ sumOf z c r ⌝ }
+fn sum(zoom: u64, column: u64, row: u64) -> u64
+    ensures { λ r. ⌜ r ≡ sumOf zoom column row ⌝ }
 {
-    low(z) * 688268543
-        + high(z) * 675917051
-        + low(c) * 726027349
-        + high(c) * 598323107
-        + low(r) * 659491247
-        + high(r) * 619448981
+    low(zoom) * 688268543
+        + high(zoom) * 675917051
+        + low(column) * 726027349
+        + high(column) * 598323107
+        + low(row) * 659491247
+        + high(row) * 619448981
 }
 
 fn stir(x: u64) -> u64
@@ -78,7 +78,7 @@ fn words_onto(s: &[u8], h: u64, at: usize, count: usize) -> u64
     mixed
 }
 
-// How many words are mixed of a name of n octets. There is a most: a listing may have a name of a million octets in every row.
+// How many words are mixed of a name of n octets. They are bounded: a listing may have a name of a million octets in every row.
 fn word_count(n: usize) -> usize
     ensures { λ r. ⌜ (r ≡ wordCount n) × (8 * r ≤ n + 7) ⌝ }
 {
@@ -118,24 +118,24 @@ fn name_mix(s: &[u8]) -> u64
 }
 
 // Where an address stands in its block.
-fn in_block(z: u64, c: u64, r: u64) -> u64
-    ensures { λ s. ⌜ (s ≡ inBlock z c r) × (s < mixRange) ⌝ }
+fn in_block(zoom: u64, column: u64, row: u64) -> u64
+    ensures { λ r. ⌜ (r ≡ inBlock zoom column row) × (r < mixRange) ⌝ }
 {
-    ((z % SIDE * SIDE + r % SIDE) * SIDE + c % SIDE) * 65537
+    ((zoom % SIDE * SIDE + row % SIDE) * SIDE + column % SIDE) * 65537
 }
 
-// A name and three numbers, by their patterns.
-pub fn mix_of(names: &[u8], x: Name, z: u64, c: u64, r: u64) -> usize
-    ensures { λ y. ⌜ (y ≡ keyMix (spell (now (names .entry)) x, signed z, signed c, signed r)) × (y < mixRange) ⌝ }
+// The mix of a name and three numbers, given by their patterns.
+pub fn mix_of(names: &[u8], name: Name, zoom: u64, column: u64, row: u64) -> usize
+    ensures { λ r. ⌜ (r ≡ keyMix (spell (now (names .entry)) name, signed zoom, signed column, signed row)) × (r < mixRange) ⌝ }
 {
-    let named = name_mix(octets::spelled(names, x));
-    let block = stir(named ^ sum(z / SIDE, c / SIDE, r / SIDE));
-    ((block + in_block(z, c, r)) % HALF_RANGE) as usize
+    let named = name_mix(octets::spelled(names, name));
+    let block = stir(named ^ sum(zoom / SIDE, column / SIDE, row / SIDE));
+    ((block + in_block(zoom, column, row)) % HALF_RANGE) as usize
 }
 
 // The mix of a key.
 pub fn mix(names: &[u8], key: Key) -> usize
-    ensures { λ y. ⌜ (y ≡ keyMix (meaning (now (names .entry)) key)) × (y < mixRange) ⌝ }
+    ensures { λ r. ⌜ (r ≡ keyMix (meaning (now (names .entry)) key)) × (r < mixRange) ⌝ }
 {
     match key {
         Key::Address {

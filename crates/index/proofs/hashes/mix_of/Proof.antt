@@ -20,4 +20,4 @@ mix-of-spec =
     (λ c. search needs)
     (λ c.
     let f = c .before .before .before .before .before .before .fits in
-    (simp (ofZ-toZ w64 _ (f .z), ofZ-toZ w64 _ (f .c), ofZ-toZ w64 _ (f .r)) (cc), mod-lt _ (omega arith))))
+    (simp (ofZ-toZ w64 _ (f .zoom), ofZ-toZ w64 _ (f .column), ofZ-toZ w64 _ (f .row)) (cc), mod-lt _ (omega arith))))
