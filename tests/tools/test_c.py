@@ -134,7 +134,7 @@ class Work(unittest.TestCase):
     15 heads for 16 rows at the least."""
 
     first_part = constant("report", r"^(?:pub )?const FIRST_PART: usize = (\d+);$")
-    spare = constant("index", r"^(?:(?:pub )?const SPARE_HEADS: usize =| +let some = rows \+) (\d+);$")
+    spare = constant("index", r"^const SPARE_HEADS: usize = (\d+);$")
     tried = sorted({0, 1, 1000, *range(0, TILES.most, 4093), TILES.most - 1, TILES.most})
 
     def heads_for(self, octets: int, rows: int) -> int:

@@ -31,11 +31,11 @@ class Tools(unittest.TestCase):
         self.assertEqual({word.split("/")[0] for word in run}, {"tools"})
 
     def test_every_path_that_a_page_names_is_there(self) -> None:
-        for page in ["README.md", "docs/API.md", "docs/LISTING.md", "docs/RULES.md"]:
-            text = (ROOT / page).read_text(encoding="utf-8")
+        for page in [ROOT / "README.md", ROOT / "CONTRIBUTING.md", *sorted((ROOT / "docs").rglob("*.md"))]:
+            text = page.read_text(encoding="utf-8")
             folders = "tools|tests|bench|examples|include|docs|samples"
             named = set(re.findall(rf"(?<![\w/])(?:{folders})/[\w./-]*[\w-]", text))
-            self.assertEqual({name for name in named if not (ROOT / name).exists()}, set(), page)
+            self.assertEqual({name for name in named if not (ROOT / name).exists()}, set(), page.name)
 
 
 if __name__ == "__main__":

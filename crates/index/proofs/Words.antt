@@ -4,13 +4,13 @@ use mathlib.Core.Path.{_≡_, sym, _∙_, subst}
 use mathlib.Core.List.{List}
 use mathlib.Core.Bool.{Bool, true, false}
 use native.Mathlib.Omega.{arith}
-use native.Mathlib.Nat.{div-div-eq-div-mul, div-add-mod'}
 use native.Mathlib.Numerals.{add-one}
 use borrow.Author.Tests.{le-leb, ltb-true, ltb-false}
 use lib.Dec.{ltb}
 use lib.ListN.{length, getD, set, length-set}
 use lib.Seq.{getD-set-same, getD-set-other}
 use Rattle.octets.specs.Octets.{le32}
+use Rattle.octets.specs.OctetLaws.{word-number}
 use Rattle.index.specs.Chains.{rowRange, printRange, isEntry, newest, marked, Index}
 use Rattle.index.specs.ChainLaws.{by-test, newest-le, index-none, index-old, index-new, marked-small}
 use Rattle.index.specs.Work.{mixRange, wordAt, putWord, printOf, pushed, Indexed, spareHeads, headsFor, Ready}
@@ -28,9 +28,6 @@ put2 w at x = set (put1 w at x) (suc at) (x / 256 % 256)
 
 abbrev put3 : List ℕ → ℕ → ℕ → List ℕ
 put3 w at x = set (put2 w at x) (suc (suc at)) (x / 65536 % 256)
-
-digits : (x q1 q2 q3 r0 r1 r2 r3 : ℕ) → q1 * 256 + r0 ≡ x → q2 * 256 + r1 ≡ q1 → q3 * 256 + r2 ≡ q2 → r3 ≡ q3 → r0 + 256 * r1 + 65536 * r2 + 16777216 * r3 ≡ x
-digits x q1 q2 q3 r0 r1 r2 r3 a b c d = omega arith
 
 -- the word that was written
 pub word-same : (w : List ℕ) (j x : ℕ) → 4 * j + 4 ≤ length w → x < 4294967296 → wordAt (putWord w j x) j ≡ x
@@ -53,11 +50,7 @@ word-same w j x h b =
     let e3 = getD-set-same (put3 w at x) (suc (suc (suc at))) d3 0 (simp length-set (omega arith)) in
     simp (length-set, le-leb _ _ h)
     (rw (s1, s2, s3, e0, e1, e2, e3)
-    (digits x (x / 256) (x / 65536) (x / 16777216) (x % 256) (x / 256 % 256) (x / 65536 % 256) d3
-    (div-add-mod' x 256)
-    (rw (← div-div-eq-div-mul x 256 256) (div-add-mod' (x / 256) 256))
-    (rw (← div-div-eq-div-mul x 65536 256) (div-add-mod' (x / 65536) 256))
-    (omega arith)))
+    (word-number x b))
 
 -- an octet of another word
 octet-other : (w : List ℕ) (j x p : ℕ) → (p / 4 ≡ j → ⊥) → getD (putWord w j x) p 0 ≡ getD w p 0

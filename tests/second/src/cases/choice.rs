@@ -9,7 +9,7 @@ use crate::listing::layout::{CONTENTS, TILES};
 use crate::listing::{read, Listing};
 use crate::rules::WORDS_OF_A_FINDING;
 
-/// The `work` that serves every listing at full speed.
+/// The `work` that serves 262,144 tiles at full speed.
 const FULL_WORK: usize = 2 << 20;
 /// Octets of the answers of a report, of a verdict and of a lookup.
 const REPORT_ANSWER: usize = 20;

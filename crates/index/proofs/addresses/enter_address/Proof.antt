@@ -25,14 +25,16 @@ enter-address-spec =
     let some = c .before .before .before .if1 .left in
     (keyed-leads (pre .0) (key-sound (args .tiles .now) (args .names .now) _ (key.Address (a .name) (a .zoom) (a .column) (a .row)) refl) some (y .0) (y .1) (le-of-lt (pre .1)), (keyed-heads (pre .0) some .1, y .1)))
     (λ c κs.
-    let pre = c .before .before .before .before .before .before .before .before .before .pre in
-    let some = c .before .before .before .before .before .if1 .left in
+    let tested = c .before .before .before .before .before in
+    let pre = tested .before .before .before .before .pre in
+    let some = tested .if1 .left in
     let heads = keyed-heads (pre .0) some in
     (heads .0, heads .1, c .before .before .before .mix-of .ensures .1, omega (arith, pre .0 .there some .room)))
     (λ c. search needs)
     (λ c.
-    let pre = c .before .before .before .before .before .before .before .before .before .before .before .before .pre in
-    let args = c .before .before .before .before .before .before .before .before .before .before .before .before .args in
+    let row = c .before .before .before .before .before .before .before in
+    let pre = row .before .before .before .before .before .pre in
+    let args = row .before .before .before .before .before .args in
     let y = c .before .before .before .before .before .before .mix-of .ensures in
-    let read = read-address (args .tiles .now) (args .names .now) (args .i) (c .before .before .before .before .before .before .before .tile-at .result) (c .before .before .before .before .before .before .before .tile-at .ensures) in
-    entered (pre .0) (pre .1) (address-own (args .tiles .now) (args .names .now) (args .i) (c .before .before .before .before .before .before .before .tile-at .result) (c .before .before .before .before .before .before .before .tile-at .ensures)) read (c .before .before .before .before .walk-address .ensures) (y .0) (y .1) (c .before .before .settle .ensures)))
+    let read = read-address (args .tiles .now) (args .names .now) (args .i) (row .tile-at .result) (row .tile-at .ensures) in
+    entered (pre .0) (pre .1) (address-own (args .tiles .now) (args .names .now) (args .i) (row .tile-at .result) (row .tile-at .ensures)) read (c .before .before .before .before .walk-address .ensures) (y .0) (y .1) (c .before .before .settle .ensures)))

@@ -26,7 +26,9 @@ index-all-spec =
     (λ c. search needs)
     (λ c. (rw (c .before .before .before .before .before .count .ensures) at (c .before .before .before .start .ensures .0), keyed-none (c .if1 .taken)))
     (λ c. (omega arith, keyed-start (rw (c .before .before .before .before .before .count .ensures) at (c .before .before .before .start .ensures .1)), refl))
-    (λ c κs. (c .before .before .loop .inv .1, omega (arith, c .before .before .before .before .before .before .before .before .count .ensures)))
+    (λ c κs.
+    let looped = c .before .before in
+    (looped .loop .inv .1, omega (arith, looped .before .before .before .before .before .before .count .ensures)))
     (λ c. omega arith)
     (λ c. omega arith)
     (λ c. let called = c .before .before .enter in (omega arith, called .ensures .indexed, called .kept .1 .1 .0 ∙ c .before .before .before .before .before .loop .inv .2))

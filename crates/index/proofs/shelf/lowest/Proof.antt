@@ -32,9 +32,10 @@ lowest-spec =
     (λ c κs. let heads = keyed-heads (c .before .before .before .before .before .before .pre .0) (c .before .before .if1 .left) in (heads .0, heads .1, c .before .mix .ensures .1))
     (λ c κs. omega (arith, c .before .before .before .before .before .before .before .pre .0 .there (c .before .before .before .if1 .left) .room, c .place .ensures))
     (λ c.
+    let tested = c .before .before .before .before in
     let y = c .before .before .before .mix .ensures in
-    let confined = c .before .before .before .before .before .before .before .before .pre .1 in
-    shelving-start (shelf-of (c .before .before .before .before .before .before .before .before .pre .0) (c .before .before .before .before .if1 .left) (y .1) (λ k t. y .0 ∙ ap keyMix (confined .within k t))) (rw (c .before .place .ensures .0) at (c .word-at .ensures)) refl)
+    let confined = tested .before .before .before .before .pre .1 in
+    shelving-start (shelf-of (tested .before .before .before .before .pre .0) (tested .if1 .left) (y .1) (λ k t. y .0 ∙ ap keyMix (confined .within k t))) (rw (c .before .place .ensures .0) at (c .word-at .ensures)) refl)
     (λ c. omega (arith, shelving-row (c .before .loop .inv) (c .loop-test .taken)))
     (λ c κs. rw (c .before .before .before .before .print .ensures .0) (shelving-print (c .before .loop .inv) (c .loop-test .taken)))
     (λ c. omega (arith, shelving-row (c .before .before .loop .inv) (c .before .loop-test .taken)))

@@ -33,12 +33,19 @@ lowest-531-spec =
     (λ c. search needs)
     (λ c κs. search needs)
     (λ c κs. search needs)
-    (λ c κs. let heads = keyed-heads (c .before .before .before .before .before .before .before .before .before .before .pre) (c .before .before .before .before .before .before .if1 .left) in (heads .0, heads .1, c .before .mix-of .ensures .1))
-    (λ c κs. omega (arith, c .before .before .before .before .before .before .before .before .before .before .before .pre .there (c .before .before .before .before .before .before .before .if1 .left) .room, c .place .ensures))
+    (λ c κs.
+    let tested = c .before .before .before .before .before .before in
+    let heads = keyed-heads (tested .before .before .before .before .pre) (tested .if1 .left) in (heads .0, heads .1, c .before .mix-of .ensures .1))
+    (λ c κs.
+    let tested = c .before .before .before .before .before .before .before in
+    omega (arith, tested .before .before .before .before .pre .there (tested .if1 .left) .room, c .place .ensures))
     (λ c.
-    let args = c .before .before .before .before .before .before .before .before .before .before .before .before .args in
-    let y = c .before .before .before .mix-of .ensures in
-    shelving-start (shelf-of (c .before .before .before .before .before .before .before .before .before .before .before .before .pre) (c .before .before .before .before .before .before .before .before .if1 .left) (y .1) (λ k t. y .0 ∙ ap keyMix (named-531 (args .matrices .now) (args .names .now) (args .q) k t))) (rw (c .before .place .ensures .0) at (c .word-at .ensures)) refl)
+    let mixed = c .before .before .before in
+    let tested = mixed .before .before .before .before .before in
+    let st = tested .before .before .before .before in
+    let args = st .args in
+    let y = mixed .mix-of .ensures in
+    shelving-start (shelf-of (st .pre) (tested .if1 .left) (y .1) (λ k t. y .0 ∙ ap keyMix (named-531 (args .matrices .now) (args .names .now) (args .q) k t))) (rw (c .before .place .ensures .0) at (c .word-at .ensures)) refl)
     (λ c. omega (arith, shelving-row (c .before .loop .inv) (c .loop-test .taken)))
     (λ c κs. rw (c .before .before .before .before .print .ensures .0) (shelving-print (c .before .loop .inv) (c .loop-test .taken)))
     (λ c. omega (arith, shelving-row (c .before .before .loop .inv) (c .before .loop-test .taken)))
