@@ -11,7 +11,7 @@ from pathlib import Path
 from typing import List
 from unittest import mock
 
-from packs import GPKG_LISTING, PACKS, TOOLS, Called, InRoom, Ran, good, loaded, needs_library
+from packs import GPKG_LISTING, PACKS, TOOLS, Called, InRoom, Ran, good, loaded, make_pack, needs_library
 
 GPKG_CHECK = loaded("gpkg-check")
 MEADOW = PACKS / "meadow.gpkg"
@@ -102,34 +102,52 @@ class ErrorsThatNobodyForesaw(InRoom):
 
 
 class CtrlC(InRoom):
-    def interrupted(self, pack: Path, *words: str) -> int:
-        """The status of gpkg-check, to which Ctrl-C came once it had begun to read."""
+    """gpkg-check inside views that never yield a row."""
+
+    def endless(self, name: str) -> Path:
+        rows = good()
+        del rows["farm"]
+        endless = "WITH RECURSIVE n(i) AS (SELECT 0 UNION ALL SELECT i + 1 FROM n)"
+        columns = "i AS zoom_level, 0 AS tile_column, 0 AS tile_row"
+        return make_pack(
+            self.room / f"{name}.gpkg", rows, f"CREATE VIEW farm AS {endless} SELECT {columns} FROM n WHERE i < 0"
+        )
+
+    def status_of_interrupted(self, seen: bytes, *words: object) -> int:
+        """The status of gpkg-check, to which Ctrl-C came once it had said that it has begun."""
         ours, theirs = pty.openpty()
         self.addCleanup(os.close, ours)
-        command = [str(TOOLS / "gpkg-check"), str(pack), *words]
         process = subprocess.Popen(
-            command, stdout=subprocess.DEVNULL, stderr=theirs,
+            [str(TOOLS / "gpkg-check"), *map(str, words)],
+            stdout=subprocess.DEVNULL,
+            stderr=theirs,
+            env={**os.environ, "TMPDIR": str(self.room)},
+            start_new_session=True,
             # Whoever runs these tests may have Ctrl-C switched off.
             preexec_fn=lambda: signal.signal(signal.SIGINT, signal.default_int_handler),
         )
         os.close(theirs)
         self.addCleanup(process.kill)
         said = b""
-        while b"gpkg_tile_matrix" not in said:
+        while seen not in said:
             said += os.read(ours, 1000)
         # It comes to the tiles in an instant, and would stay there for ever.
         with self.assertRaises(subprocess.TimeoutExpired):
             process.wait(0.5)
         process.send_signal(signal.SIGINT)
-        return process.wait(20)
+        status = process.wait(20)
+        with self.assertRaises(ProcessLookupError, msg="a process is left"):
+            os.killpg(process.pid, 0)
+        return status
 
-    def test_inside_a_view_that_never_yields_a_row(self) -> None:
-        rows = good()
-        del rows["farm"]
-        endless = "WITH RECURSIVE n(i) AS (SELECT 0 UNION ALL SELECT i + 1 FROM n)"
-        columns = "i AS zoom_level, 0 AS tile_column, 0 AS tile_row"
-        pack = self.pack(rows, f"CREATE VIEW farm AS {endless} SELECT {columns} FROM n WHERE i < 0")
-        self.assertEqual(self.interrupted(pack), 130)
+    def test_one_pack(self) -> None:
+        self.assertEqual(self.status_of_interrupted(b"gpkg_tile_matrix", self.endless("one")), 130)
+
+    def test_two_processes(self) -> None:
+        """The first of the three hears it alone, and ends the others."""
+        packs = [self.endless(name) for name in ["one", "two", "three"]]
+        self.assertEqual(self.status_of_interrupted(b"0 of 3 packs", "--jobs", 2, *packs), 130)
+        self.assertEqual(sorted(self.room.iterdir()), sorted(packs))
 
 
 if __name__ == "__main__":

@@ -17,7 +17,8 @@ from test_listing import FARM, planted
 
 from desterlin import report
 from desterlin.check import Judged
-from desterlin.many import Outcome, side_by_side
+from desterlin.many import Outcome
+from desterlin.workers import side_by_side
 
 GPKG_CHECK = loaded("gpkg-check")
 VALLEY, MEADOW = PACKS / "valley.gpkg", PACKS / "meadow.gpkg"
@@ -30,7 +31,7 @@ class Several(InRoom):
 
     def test_each_has_its_report_and_a_line_in_the_summary(self) -> None:
         called = Called(GPKG_CHECK, VALLEY, MEADOW)
-        lines = f"summary of 2 packs\n    1  {VALLEY}: 1 finding\n    0  {MEADOW}: no findings\n"
+        lines = f"summary\n    1  {VALLEY}: 1 finding\n    0  {MEADOW}: no findings\n"
         self.assertEqual((called.status, called.err), (1, ""))
         self.assertEqual(called.out, self.reports(VALLEY, MEADOW) + lines)
 
@@ -66,7 +67,7 @@ class Several(InRoom):
     def test_a_folder_stands_for_its_packs_by_name(self) -> None:
         packs = self.folder()
         called = Called(GPKG_CHECK, self.room, MEADOW)
-        summary = called.out[called.out.index("summary of 5 packs\n"):].splitlines()[1:]
+        summary = called.out[called.out.index("summary\n"):].splitlines()[1:]
         self.assertEqual([line[:7] + line[7:].split(":")[0] for line in summary],
                          [f"    {status}  {pack}" for status, pack in zip([1, 0, 2, 1, 0], [*packs, MEADOW])])
         note = f"gpkg-check: note: {self.room / 'within.gpkg'}: a folder in a folder is not entered\n"
@@ -88,7 +89,7 @@ class Several(InRoom):
     def test_a_folder_of_one_has_its_summary(self) -> None:
         pack = self.pack(good())
         called = Called(GPKG_CHECK, self.room)
-        self.assertEqual(called.out, self.reports(pack) + f"summary of 1 pack\n    0  {pack}: no findings\n")
+        self.assertEqual(called.out, self.reports(pack) + f"summary\n    0  {pack}: no findings\n")
 
     def test_json_is_an_object_a_line(self) -> None:
         self.folder()

@@ -424,7 +424,9 @@ class Export:
         """Has SQLite plan the query of a view, and so name what it reads, without running it."""
         relation = self.relations.get(name)
         if relation is not None and relation.is_view:
-            self.connection.execute(f"EXPLAIN SELECT * FROM {quoted(relation)}")
+            # What cannot be planned names nothing, and what it shows is then told as not judged.
+            with contextlib.suppress(*SQLITE_ERRORS):
+                self.connection.execute(f"EXPLAIN SELECT * FROM {quoted(relation)}")
 
 
 def watched(action: int, name: Optional[str], seen: Set[bytes]) -> int:

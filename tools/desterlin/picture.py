@@ -7,8 +7,8 @@ without tiles are left out, and of very many not all are drawn; the picture says
 
 from __future__ import annotations
 
+from html import escape
 from typing import Dict, Iterable, Iterator, List, NamedTuple, Optional, Sequence, Set, Tuple
-from xml.sax.saxutils import escape
 
 from .console import counted, plain, shown
 from .listing import Listing, Matrix
@@ -241,7 +241,7 @@ class Panel:
             if any(fault in spot.faults for spot in marked):
                 yield mark(fault, self.size)
         if marked:
-            yield f"<title>{escape(chr(10).join(mark_words(marked)))}</title>"
+            yield f"<title>{escape(chr(10).join(mark_words(marked)), quote=False)}</title>"
 
     def frame(self) -> Iterator[str]:
         """The border of the matrix, broken where the matrix goes on, with lines between its squares where those are
@@ -290,4 +290,4 @@ def mark_words(spots: Sequence[Spot]) -> Iterator[str]:
 
 def text(x: float, y: float, words: str, kind: str = "") -> str:
     of_kind = f' class="{kind}"' if kind else ""
-    return f'<text x="{x}" y="{y}"{of_kind}>{escape(words)}</text>'
+    return f'<text x="{x}" y="{y}"{of_kind}>{escape(words, quote=False)}</text>'
