@@ -379,6 +379,14 @@ class Writing(InRoom):
             with self.assertRaisesRegex(Trouble, "the pack was changed while it was read; try again"):
                 self.listing_of(pack)
 
+    def test_a_copy_for_which_there_is_no_room(self) -> None:
+        pack = self.pack(good())
+        self.writer_with_a_change(pack)
+        (self.room / "pack.gpkg-shm").unlink()
+        with mock.patch.object(shutil, "copyfile", side_effect=OSError(28, "No space left on device")):
+            with self.assertRaisesRegex(Trouble, "cannot be copied to be read with them: No space left on device"):
+                self.listing_of(pack)
+
 
 class EmptyText(unittest.TestCase):
     def test_needs_no_octet(self) -> None:

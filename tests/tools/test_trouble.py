@@ -298,6 +298,7 @@ class Out(InRoom):
     def test_folder_that_this_user_may_not_write_to(self) -> None:
         pack = self.pack(good())
         self.room.chmod(0o555)
+        self.addCleanup(self.room.chmod, 0o755)
         with as_nobody():
             self.assertIn("cannot be written: Permission denied", self.trouble_with(pack))
 

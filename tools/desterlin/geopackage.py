@@ -135,44 +135,60 @@ def address_of(path: str, uses_wal: bool, say: Callable[[str], None]) -> Iterato
     some, and nobody has it open, a copy is read."""
     # SQLite looks beside the file itself, and not beside a link to it.
     real = os.path.realpath(path)
-    try:
-        before = state(real)
-        has_changes = before[-1] is not None
-        if has_changes and not os.path.exists(real + "-shm"):
-            say("copying the pack, which has changes in a file beside it")
-            with copied(real) as copy:
-                check_unchanged(path, before)
-                yield address(copy, "")
-        elif uses_wal and not has_changes:
-            yield address(real, "&immutable=1")
+    before = state(path)
+    if before.beside is not None and not os.path.exists(real + "-shm"):
+        say("copying the pack, which has changes in a file beside it")
+        with copied(path) as copy:
             check_unchanged(path, before)
-        else:
-            yield address(real, "")
+            yield address(copy, "")
+    elif uses_wal and before.beside is None:
+        yield address(real, "&immutable=1")
+        check_unchanged(path, before)
+    else:
+        yield address(real, "")
+
+
+class State(NamedTuple):
+    """Differs once the pack has been changed: what is known of its file, and of that with its changes, if there are
+    any beside it."""
+
+    itself: Tuple[int, int, int]
+    beside: Optional[Tuple[int, int, int]]
+
+
+def state(path: str) -> State:
+    real = os.path.realpath(path)
+    beside = None
+    try:
+        with contextlib.suppress(FileNotFoundError):
+            beside = known_of(real + "-wal")
+        return State(known_of(real), beside if beside and beside[1] > 0 else None)
     except OSError as error:
         raise trouble_with(path, f"cannot be read: {told(error)}") from error
 
 
-def state(real: str) -> Tuple[object, ...]:
-    """Differs once the pack has been changed; the last part is None where there are no changes beside it."""
-    status = os.stat(real)
-    beside = None
-    with contextlib.suppress(FileNotFoundError):
-        wal = os.stat(real + "-wal")
-        beside = (wal.st_size, wal.st_mtime_ns) if wal.st_size else None
-    return status.st_ino, status.st_size, status.st_mtime_ns, beside
+def known_of(file: str) -> Tuple[int, int, int]:
+    status = os.stat(file)
+    return status.st_ino, status.st_size, status.st_mtime_ns
 
 
-def check_unchanged(path: str, before: Tuple[object, ...]) -> None:
-    if state(os.path.realpath(path)) != before:
+def check_unchanged(path: str, before: State) -> None:
+    if state(path) != before:
         raise trouble_with(path, "the pack was changed while it was read; try again")
 
 
 @contextlib.contextmanager
-def copied(real: str) -> Iterator[str]:
-    with tempfile.TemporaryDirectory(prefix="desterlin-") as room:
-        copy = os.path.join(room, "pack.gpkg")
-        shutil.copyfile(real, copy)
-        shutil.copyfile(real + "-wal", copy + "-wal")
+def copied(path: str) -> Iterator[str]:
+    real = os.path.realpath(path)
+    with contextlib.ExitStack() as stack:
+        try:
+            room = stack.enter_context(tempfile.TemporaryDirectory(prefix="desterlin-"))
+            copy = os.path.join(room, "pack.gpkg")
+            shutil.copyfile(real, copy)
+            shutil.copyfile(real + "-wal", copy + "-wal")
+        except OSError as error:
+            why = "it has changes in a file beside it, and cannot be copied to be read with them"
+            raise trouble_with(path, f"{why}: {told(error)}") from error
         yield copy
 
 

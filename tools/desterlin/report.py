@@ -96,8 +96,8 @@ def summary_lines(judged: Judged, known: Known) -> Iterator[str]:
         yield f"{len(judged.findings):9,}  in all; {counted(len(RULES) - len(tally), 'rule')} without findings"
     of_sides = sum(tally.get(code, 0) for code in SIDES)
     if of_sides:
-        those = f"of the {counted(of_sides, 'finding')} of 451 and 452"
-        yield f"{slight(judged, known):9,}  {those} below one part in 10^9 of the extent"
+        those = f"of {counted(of_sides, 'finding')} of 451 and 452"
+        yield f"{slight(judged, known):9,}  {those} off by less than one part in 10^9 of the extent"
 
 
 def slight(judged: Judged, known: Known) -> int:
