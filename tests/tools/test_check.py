@@ -173,6 +173,9 @@ class Packs(InRoom):
         self.assertNotIn(b"\r", ran.stdout)
 
 
+SLIGHT = "of 451 and 452 off by less than one part in 10^9 of the extent"
+
+
 @needs_library
 class Lengths(InRoom):
     """451 and 452 are told in numbers that a person can weigh, and those that hardly weigh are counted."""
@@ -194,7 +197,7 @@ class Lengths(InRoom):
         ]:
             self.assertEqual(sum(line.endswith(words) for line in lines), 3, words)
         self.assertEqual(sum(line.endswith("; 25.6 in the map's units; 0.25 of the extent") for line in lines), 2)
-        self.assertEqual(lines[-1], "        6  of 8 findings of 451 and 452 off by less than one part in 10^9 of the extent")
+        self.assertEqual(lines[-1], f"        6  of 8 findings {SLIGHT}")
         told = json.loads(Called(GPKG_CHECK, "--json", "--most", 4, pack).out)
         self.assertEqual((told["slight"], told["total"]), (6, 9))
         off = [(finding["off"], finding["off_share"]) for finding in told["findings"] if finding["code"] == 451]
@@ -212,7 +215,7 @@ class Lengths(InRoom):
     def test_lengths_that_are_none_weigh_nothing(self) -> None:
         pack = self.pack_of(float("inf"), 5.0, 0.0, [4.0])
         called = Called(GPKG_CHECK, pack)
-        self.assertIn("        0  of 2 findings of 451 and 452 off by less than one part in 10^9 of the extent\n", called.out)
+        self.assertIn(f"        0  of 2 findings {SLIGHT}\n", called.out)
         told = json.loads(Called(GPKG_CHECK, "--json", pack).out)
         off = [(finding["off"], finding["off_share"]) for finding in told["findings"] if finding["code"] in (451, 452)]
         self.assertEqual((told["slight"], off), (0, [(None, None), (1024.0, None)]))

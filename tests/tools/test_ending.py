@@ -33,20 +33,19 @@ class StandardOutput(InRoom):
             f"tools/gpkg-listing {MEADOW} {self.room / 'out.listing'}",
         ]
 
+    def check_trouble(self, where: str, words: str) -> None:
+        for call in self.calls():
+            with self.subTest(call):
+                ran = in_shell(f"{call} {where}")
+                self.assertEqual(ran.status, 2)
+                self.assertRegex(ran.err, rf"^gpkg-\w+: {words}\n$")
+
     @needs_library
     def test_that_is_full(self) -> None:
-        for call in self.calls():
-            with self.subTest(call):
-                ran = in_shell(f"{call} > /dev/full")
-                self.assertEqual(ran.status, 2)
-                self.assertRegex(ran.err, r"^gpkg-\w+: standard output cannot be written: No space left on device\n$")
+        self.check_trouble("> /dev/full", "standard output cannot be written: No space left on device")
 
     def test_that_is_closed(self) -> None:
-        for call in self.calls():
-            with self.subTest(call):
-                ran = in_shell(f"{call} >&-")
-                self.assertEqual(ran.status, 2)
-                self.assertRegex(ran.err, r"^gpkg-\w+: standard output is closed\n$")
+        self.check_trouble(">&-", "standard output is closed")
 
     def test_a_reader_of_a_listing_who_has_seen_enough(self) -> None:
         tiles = "WITH RECURSIVE n(i) AS (SELECT 0 UNION ALL SELECT i + 1 FROM n LIMIT 20000)"
