@@ -47,6 +47,13 @@ class StandardOutput(InRoom):
     def test_that_is_closed(self) -> None:
         self.check_trouble(">&-", "standard output is closed")
 
+    @needs_library
+    def test_a_picture_for_which_there_is_no_room_leaves_the_findings(self) -> None:
+        ran = in_shell(f"tools/gpkg-check --svg - {PACKS / 'valley.gpkg'} > /dev/full")
+        self.assertEqual(ran.status, 2)
+        self.assertIn("541  two tiles at one address", ran.err)
+        self.assertIn("gpkg-check: standard output cannot be written: No space left on device\n", ran.err)
+
     def test_a_reader_of_a_listing_who_has_seen_enough(self) -> None:
         tiles = "WITH RECURSIVE n(i) AS (SELECT 0 UNION ALL SELECT i + 1 FROM n LIMIT 20000)"
         pack = self.pack(good(), f"INSERT INTO farm {tiles} SELECT 1, i, 0 FROM n")

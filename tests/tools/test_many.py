@@ -86,6 +86,13 @@ class Several(InRoom):
         trouble = f"{self.room}: there is no pack (*.gpkg) in this folder"
         self.assertEqual((called.status, called.err), (2, f"gpkg-check: {trouble}\n"))
 
+    def test_a_link_that_leads_nowhere_is_told_and_keeps_nothing_else_from_being_judged(self) -> None:
+        (self.room / "loop.gpkg").symlink_to(self.room / "loop.gpkg")
+        pack = self.pack(good())
+        called = Called(GPKG_CHECK, self.room)
+        self.assertIn(f"    2  {self.room}/loop.gpkg: cannot be read: ", called.out)
+        self.assertIn(f"    0  {pack}: no findings\n", called.out)
+
     def test_a_folder_of_one_has_its_summary(self) -> None:
         pack = self.pack(good())
         called = Called(GPKG_CHECK, self.room)

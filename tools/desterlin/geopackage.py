@@ -73,7 +73,7 @@ class Source(NamedTuple):
 
     relation: Relation
     first: int
-    keyed_by: Optional[str]
+    keyed_by: str
     keys: List[Optional[int]]
 
     def origin(self, row: int) -> str:
@@ -327,7 +327,7 @@ class Export:
         first_spelled: Dict[bytes, bytes] = {}
         for name in dict.fromkeys(names):
             first = first_spelled.setdefault(without_case(name), name)
-            if first != name:
+            if first != name and without_case(name) in self.relations:
                 same = f"to SQLite that is {shown(first)}, and as tiles of {shown(first)} they are judged"
                 self.not_judged.append(f"tiles of {shown(name)}: {same}")
         if self.is_hindered():
@@ -376,7 +376,7 @@ class Export:
                 values.append(stand_in(field))
         return values
 
-    def selected(self, relation: Relation, fields: Sequence[Field]) -> Tuple[Optional[str], Iterator[Cells]]:
+    def selected(self, relation: Relation, fields: Sequence[Field]) -> Tuple[str, Iterator[Cells]]:
         """By what the rows are known, and the rows, each with that key, or NULL, before its columns: in rowid order, or
         those of a view in the order in which SELECT * gives them."""
         there = self.columns(relation)

@@ -21,11 +21,11 @@ class Outcome(NamedTuple):
 def packs_in(folder: str) -> Tuple[List[str], List[str]]:
     """The packs of a folder, by name, and the folders in it, which are not entered."""
     try:
-        entries = sorted(os.scandir(folder), key=lambda entry: entry.name)
+        paths = [os.path.join(folder, name) for name in sorted(os.listdir(folder))]
     except OSError as error:
         raise trouble_with(folder, f"cannot be read: {told(error)}") from error
-    folders = [entry.path for entry in entries if entry.is_dir()]
-    packs = [entry.path for entry in entries if entry.name.lower().endswith(".gpkg") and entry.path not in folders]
+    folders = [path for path in paths if os.path.isdir(path)]
+    packs = [path for path in paths if path.lower().endswith(".gpkg") and not os.path.isdir(path)]
     if not packs:
         raise trouble_with(folder, "there is no pack (*.gpkg) in this folder")
     return packs, folders
