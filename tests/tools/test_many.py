@@ -2,17 +2,19 @@
 
 from __future__ import annotations
 
+import contextlib
 import errno
 import json
 import os
 import signal
 import time
 import unittest
+from multiprocessing.connection import wait
 from pathlib import Path
 from typing import Iterator, List
 from unittest import mock
 
-from packs import PACKS, ROOT, Called, InRoom, good, loaded, make_pack, needs_library
+from packs import PACKS, ROOT, Called, InRoom, Ran, good, loaded, make_pack, needs_library
 from test_listing import FARM, planted
 
 from desterlin import report
@@ -80,6 +82,12 @@ class Several(InRoom):
             self.assertEqual((two.status, two.err), (one.status, one.err))
             self.assertTrue(two.out == one.out, "what is printed differs")
 
+    def test_a_reader_who_has_seen_enough_ends_them_all(self) -> None:
+        packs = f"{self.folder()[0]} " * 6
+        ran = Ran(["sh", "-c", f"{{ TMPDIR={self.room} tools/gpkg-check --jobs 2 {packs}; echo $? >&2; }} | head -n 1"])
+        self.assertEqual((ran.err, ran.out.count("\n")), ("141\n", 1))
+        self.assertEqual([path.name for path in self.room.iterdir() if path.name.startswith("desterlin-")], [])
+
     def test_a_folder_without_packs_is_no_clean_one(self) -> None:
         (self.room / "notes.txt").touch()
         called = Called(GPKG_CHECK, self.room)
@@ -116,6 +124,11 @@ class Several(InRoom):
             self.assertIn("--svg draws one pack", called.err)
 
 
+def end_group(group: int) -> None:
+    with contextlib.suppress(ProcessLookupError):
+        os.killpg(group, signal.SIGKILL)
+
+
 class Processes(unittest.TestCase):
     def test_outcomes_come_in_order_however_they_end(self) -> None:
         def act(at: int) -> Outcome:
@@ -135,6 +148,27 @@ class Processes(unittest.TestCase):
         self.assertEqual([outcome.status for outcome in found], [0, 2, 2, 0, 0])
         ended = "b: the process that judged it was ended from outside, so it was not judged"
         self.assertEqual(found[1].complaints, [ended])
+
+
+    def test_end_where_the_first_one_is_gone(self) -> None:
+        """They tell so by closing their ends of a pipe, which nobody else has."""
+        ours, theirs = os.pipe()
+        first = os.fork()
+        if first == 0:
+            os.setsid()
+
+            def act(at: int) -> Outcome:
+                if at > 1:
+                    os.kill(os.getppid(), signal.SIGKILL)
+                return Outcome("pack", 0, "", [])
+
+            list(side_by_side(["pack"] * 9, 2, act))
+            os._exit(1)
+        os.close(theirs)
+        self.addCleanup(os.close, ours)
+        self.addCleanup(end_group, first)
+        os.waitpid(first, 0)
+        self.assertTrue(wait([ours], timeout=20), "a process is left")
 
 
 @needs_library

@@ -6,7 +6,7 @@ import contextlib
 import multiprocessing
 import signal
 from multiprocessing.connection import Connection, wait
-from typing import Callable, Dict, Iterator, Sequence, Tuple
+from typing import Callable, Dict, Generator, Sequence, Tuple
 
 from .console import UNUSABLE, plain
 from .many import Outcome
@@ -20,21 +20,23 @@ class Worker:
 
     def __init__(self, act: Callable[[int], Outcome]) -> None:
         self.connection, theirs = FORKING.Pipe()
-        self.process = FORKING.Process(target=serve, args=(theirs, act), daemon=True)
+        self.process = FORKING.Process(target=serve, args=(theirs, self.connection, act), daemon=True)
         self.process.start()
-        # With the only other end gone, the end of the process is seen as the end of the connection.
+        # Each has its own end alone, so that the end of one is seen by the other as the end of the connection.
         theirs.close()
 
 
-def serve(connection: Connection, act: Callable[[int], Outcome]) -> None:
+def serve(connection: Connection, other_end: Connection, act: Callable[[int], Outcome]) -> None:
     # Ctrl-C reaches every process of the call; it is the first one's to tell.
     signal.signal(signal.SIGINT, signal.SIG_DFL)
-    with contextlib.suppress(EOFError):
+    other_end.close()
+    # Where the first one is gone, so is the connection.
+    with contextlib.suppress(EOFError, OSError):
         while True:
             connection.send(act(connection.recv()))
 
 
-def side_by_side(packs: Sequence[str], jobs: int, act: Callable[[int], Outcome]) -> Iterator[Outcome]:
+def side_by_side(packs: Sequence[str], jobs: int, act: Callable[[int], Outcome]) -> Generator[Outcome, None, None]:
     """The outcome of each pack, in their order, by so many processes; `act` is given a pack's place."""
     waiting = iter(range(len(packs)))
     at_work: Dict[object, Tuple[Worker, int]] = {}
