@@ -137,7 +137,7 @@ class FirstCheck(Checkout):
         ran = self.check()
         self.assertEqual((ran.returncode, ran.stdout), (2, ""))
         told = "gpkg-check: the proved library cannot be built: rt staticlib desterlin ended with status 1\n"
-        self.assertTrue(ran.stderr.endswith(f"{told}rt: index NOT PROVED (exit 1, 3 s)\n"), ran.stderr)
+        self.assertTrue(ran.stderr.endswith(f"{told}gpkg-check: rt: index NOT PROVED (exit 1, 3 s)\n"), ran.stderr)
 
     def test_no_kit(self) -> None:
         ran = self.run_it(self.command(), PATH=str(self.room))

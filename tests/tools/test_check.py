@@ -9,11 +9,12 @@ import subprocess
 import unittest
 import xml.dom.minidom
 from pathlib import Path
+from typing import List
 
 from packs import (
     DATE, PACKS, ROOT, SECOND, TOOLS, Called, InRoom, Ran, good, judged_by_second, loaded, make_pack, needs_library,
 )
-from test_listing import CONTENTS, FARM, PLANTED, planted
+from test_listing import CONTENTS, FARM, MATRICES, PLANTED, SETS, planted
 
 from desterlin import library
 
@@ -49,6 +50,14 @@ class Packs(InRoom):
         self.assertIn('tiles row 1 (table "farm" rowid 77), partner row 0 (table "farm" rowid 1)', said)
         self.assertIn('tiles row 2 (table "hill" rowid 1): zoom 0, column 0, row 0: "hill" has no matrix', said)
 
+    def test_rows_of_a_view_have_the_id_that_it_shows(self) -> None:
+        rows = good()
+        rows["leaves"] = [*rows.pop("farm"), (0, 0, 0), (0, 0, 0)]
+        key = "CASE rowid WHEN 5 THEN 'none' ELSE 70 + rowid END AS id"
+        said = Called(GPKG_CHECK, self.pack(rows, f"CREATE VIEW farm AS SELECT {key}, * FROM leaves")).out
+        self.assertIn('tiles row 3 (view "farm" row 3, id 74), partner row 0 (view "farm" row 0, id 71): ', said)
+        self.assertIn('tiles row 4 (view "farm" row 4), partner row 0 (view "farm" row 0, id 71): ', said)
+
     def test_what_a_name_holds_does_not_reach_the_terminal(self) -> None:
         pack = self.pack(planted([(CONTENTS, None, ("\x1b[31mred", "tiles", "\x07", 4326))]))
         called = Called(GPKG_CHECK, pack)
@@ -70,15 +79,45 @@ class Packs(InRoom):
         self.assertEqual((finding["code"], finding["requirement"], finding["table"]), (541, "C.7, Table 10", "tiles"))
         columns = {"table_name": "valley", "zoom_level": 2, "tile_column": 1, "tile_row": 2}
         for key, row in {"found_at": 16, "partner_at": 4}.items():
-            at = {"table": "tiles", "row": row, "origin": f'view "valley" row {row}', "columns": columns}
+            ids = {16: 12, 4: 5}
+            origin = f'view "valley" row {row}, id {ids[row]}'
+            at = {"table": "tiles", "row": row, "origin": origin, "columns": columns}
             self.assertEqual(finding[key], at)
 
     def test_the_pack_is_not_drawn_over(self) -> None:
         pack = self.pack(good())
         before = self.files()
         called = Called(GPKG_CHECK, pack, "--svg", pack)
-        self.assertEqual((called.status, called.out, self.files()), (2, "", before))
+        self.assertEqual((called.status, self.files()), (2, before))
         self.assertIn("this is the file that was read; it would be lost", called.err)
+
+    def test_a_picture_that_cannot_be_written_leaves_the_findings(self) -> None:
+        out = self.room / "none" / "out.svg"
+        called = Called(GPKG_CHECK, PACKS / "valley.gpkg", "--svg", out)
+        self.assertEqual((called.status, called.out), (2, Called(GPKG_CHECK, PACKS / "valley.gpkg").out))
+        trouble = f"{out}: cannot be written: No such file or directory"
+        self.assertEqual(called.err, f"gpkg-check: {trouble}\n")
+        told = json.loads(Called(GPKG_CHECK, "--json", PACKS / "valley.gpkg", "--svg", out).out)
+        self.assertEqual((told["status"], told["trouble"], told["total"]), (2, trouble, 1))
+
+    def test_a_picture_on_standard_output(self) -> None:
+        ran = Ran([TOOLS / "gpkg-check", PACKS / "valley.gpkg", "--svg", "-"])
+        xml.dom.minidom.parseString(ran.octets)
+        self.assertEqual((ran.status, ran.err), (1, Called(GPKG_CHECK, PACKS / "valley.gpkg").out))
+        self.assertFalse((ROOT / "-").exists())
+        self.assertEqual(Called(GPKG_CHECK, PACKS / "valley.gpkg", "--svg", "-", "--json").status, 2)
+
+    def test_the_path_of_a_pack_does_not_reach_the_terminal(self) -> None:
+        for name, shown in {"\x1b[31mred": "\\x1b[31mred", "\udcff": "\\xff", "new\nline": "new\\nline"}.items():
+            pack = make_pack(self.room / f"{name}.gpkg", good())
+            told = f"{self.room}/{shown}.gpkg"
+            called = Called(GPKG_CHECK, pack, "--svg", self.room / "none" / name)
+            self.assertEqual(called.out.splitlines()[0], f"{told}: no findings")
+            self.assertTrue(called.err.startswith(f"gpkg-check: {self.room}/none/{shown}: cannot be written: "))
+            self.assertIn(f"  {told}: no findings\n", Called(GPKG_CHECK, pack, pack).out)
+            pack.write_bytes(b"")
+            self.assertEqual(Called(GPKG_CHECK, pack).err, f"gpkg-check: {told}: this file is empty\n")
+            self.assertNotIn("\x1b", Called(GPKG_CHECK, "--jobs", name, pack).err)
 
     def test_picture(self) -> None:
         drawn = self.room / "valley.svg"
@@ -134,6 +173,54 @@ class Packs(InRoom):
         self.assertNotIn(b"\r", ran.stdout)
 
 
+SLIGHT = "of 451 and 452 off by less than one part in 10^9 of the extent"
+
+
+@needs_library
+class Lengths(InRoom):
+    """451 and 452 are told in numbers that a person can weigh, and those that hardly weigh are counted."""
+
+    def pack_of(self, left: float, bottom: float, side: float, pixels: "List[float]") -> Path:
+        rows = planted([])
+        rows[SETS] = [(FARM, 4326, left, bottom, left + side, bottom + side)]
+        sizes = enumerate(pixels)
+        rows[MATRICES] = [(FARM, zoom, 2**zoom, 2**zoom, 256, 256, size, size) for zoom, size in sizes]
+        return self.pack(rows)
+
+    def test_far_from_the_origin(self) -> None:
+        """The worked case of docs/RULES.md, and a level that is wrong indeed."""
+        pack = self.pack_of(500_000.0, 5_200_000.0, 102.4, [0.4, 0.2, 0.1, 0.0625])
+        lines = Called(GPKG_CHECK, pack).out.splitlines()
+        for words in [
+            "= 102.4; that is 1,638 steps off, and 4 are allowed; 2.33e-11 in the map's units; 2.27e-13 of the extent",
+            "= 102.4; that is 26,214 steps off, and 4 are allowed; 3.73e-10 in the map's units; 3.64e-12 of the extent",
+        ]:
+            self.assertEqual(sum(line.endswith(words) for line in lines), 3, words)
+        self.assertEqual(sum(line.endswith("; 25.6 in the map's units; 0.25 of the extent") for line in lines), 2)
+        self.assertEqual(lines[-1], f"        6  of 8 findings {SLIGHT}")
+        told = json.loads(Called(GPKG_CHECK, "--json", "--most", 4, pack).out)
+        self.assertEqual((told["slight"], told["total"]), (6, 9))
+        off = [(finding["off"], finding["off_share"]) for finding in told["findings"] if finding["code"] == 451]
+        self.assertEqual(off[0], (102.40000000002328 - 102.4, (102.40000000002328 - 102.4) / 102.40000000002328))
+
+    def test_one_part_in_10_to_the_9_is_not_below_it(self) -> None:
+        for side, slight in {1e9: 0, 1e9 + 2: 2}.items():
+            pack = self.pack_of(0.0, 0.0, side, [(1e9 + 1) / 256])
+            self.assertEqual(json.loads(Called(GPKG_CHECK, "--json", pack).out)["slight"], slight)
+            pack.unlink()
+
+    def test_without_451_and_452_there_is_no_such_line(self) -> None:
+        self.assertNotIn("10^9", Called(GPKG_CHECK, PACKS / "valley.gpkg").out)
+
+    def test_lengths_that_are_none_weigh_nothing(self) -> None:
+        pack = self.pack_of(float("inf"), 5.0, 0.0, [4.0])
+        called = Called(GPKG_CHECK, pack)
+        self.assertIn(f"        0  of 2 findings {SLIGHT}\n", called.out)
+        told = json.loads(Called(GPKG_CHECK, "--json", pack).out)
+        off = [(finding["off"], finding["off_share"]) for finding in told["findings"] if finding["code"] in (451, 452)]
+        self.assertEqual((told["slight"], off), (0, [(None, None), (1024.0, None)]))
+
+
 def dash(row: object) -> str:
     return "-" if row is None else str(row)
 
@@ -158,6 +245,24 @@ class Listings(InRoom):
     def test_a_reader_who_has_seen_enough(self) -> None:
         ran = Ran(["sh", "-c", "tools/gpkg-check --listing samples/many-findings.listing | head -n 1"])
         self.assertEqual((ran.err, ran.out.count("\n")), ("", 1))
+
+    def test_from_standard_input(self) -> None:
+        for name, status in {"doubled-address": 1, "good-pack": 0, "refused-version": 2}.items():
+            octets = (SAMPLES / f"{name}.listing").read_bytes()
+            ran = Ran([TOOLS / "gpkg-check", "--listing", "-"], octets)
+            self.assertEqual(ran.status, status, ran.err)
+            self.assertTrue((ran.out + ran.err).replace("gpkg-check: ", "").startswith("standard input: "))
+
+    def test_what_is_no_listing(self) -> None:
+        (self.room / "empty").touch()
+        os.mkfifo(self.room / "pipe")
+        for path, words in {
+            PACKS / "valley.gpkg": "this is a pack, and no listing of one; it is checked without --listing",
+            self.room / "empty": "this file is empty",
+            self.room / "pipe": "this is no ordinary file, so it is not read",
+        }.items():
+            ran = Ran(["timeout", "20", TOOLS / "gpkg-check", "--listing", path])
+            self.assertEqual((ran.status, ran.out, ran.err), (2, "", f"gpkg-check: {path}: {words}\n"))
 
     def test_not_there(self) -> None:
         called = Called(GPKG_CHECK, "--listing", self.room / "none")
@@ -189,13 +294,14 @@ class CallLibrary(InRoom):
 
 
 class NoLibrary(unittest.TestCase):
-    def test_how_to_build_it_is_told(self) -> None:
+    def test_how_to_build_it_is_told_once(self) -> None:
         env = {**os.environ, "DESTERLIN_LIBRARY": "/nowhere/libdesterlin.a"}
-        command = [str(TOOLS / "gpkg-check"), str(PACKS / "valley.gpkg")]
-        ran = subprocess.run(command, env=env, capture_output=True, check=False)
-        self.assertEqual((ran.returncode, ran.stdout), (2, b""))
-        self.assertIn(b"the proved library is not built", ran.stderr)
-        self.assertIn(b"rt staticlib desterlin", ran.stderr)
+        for packs in [PACKS / "valley.gpkg", PACKS]:
+            command = [str(TOOLS / "gpkg-check"), str(packs), "--jobs", "2"]
+            ran = subprocess.run(command, env=env, capture_output=True, check=False)
+            self.assertEqual((ran.returncode, ran.stdout), (2, b""))
+            self.assertEqual(ran.stderr.count(b"the proved library is not built"), 1)
+            self.assertIn(b"rt staticlib desterlin", ran.stderr)
 
 
 if __name__ == "__main__":

@@ -2,13 +2,18 @@
 
 from __future__ import annotations
 
+import os
+import shutil
 import sqlite3
 import struct
 import unittest
+from pathlib import Path
 from typing import List, Tuple
+from unittest import mock
 
 from packs import ADDRESS, DATE, PACKS, TOOLS, InRoom, Ran, Rows, good, judged_by_second, make_pack
 
+from desterlin.console import Trouble
 from desterlin.listing import Draft, Listing
 
 
@@ -275,14 +280,6 @@ class WhatMayBeMissing(InRoom):
         rows: Rows = {SRS: good()[SRS], CONTENTS: [("tracks", "features", DATE, 0)]}
         self.assertEqual(self.found_in(rows), ["total 0"])
 
-    def test_the_named_table_itself(self) -> None:
-        rows = good()
-        del rows["farm"]
-        ran = Ran([TOOLS / "gpkg-listing", self.pack(rows), "-"])
-        self.assertEqual(ran.status, 0)
-        self.assertIn('tiles of "farm" are announced, but there is no such table or view', ran.err)
-        self.assertEqual(judged_by_second(ran.octets), "total 0\n")
-
 
 class Fullness(InRoom):
     """The most that a listing carries is still carried; test_trouble.py has one more of each."""
@@ -336,14 +333,59 @@ class Writing(InRoom):
         self.assertEqual(judged_by_second(self.listing_of(pack)), "total 0\n")
         self.assertEqual([path.name for path in self.room.iterdir()], ["pack.gpkg"])
 
-    def test_changes_that_a_wal_pack_keeps_beside_it_are_seen(self) -> None:
-        pack = self.pack(good())
+    def writer_with_a_change(self, pack: Path) -> sqlite3.Connection:
+        """One who has put a tile into a WAL pack twice, and has not closed it, so that the change stands beside it."""
         writer = sqlite3.connect(pack)
         self.addCleanup(writer.close)
         writer.execute("PRAGMA journal_mode = WAL")
         writer.execute("INSERT INTO farm VALUES (1, 1, 1)")
         writer.commit()
+        return writer
+
+    def test_changes_that_a_wal_pack_keeps_beside_it_are_seen(self) -> None:
+        pack = self.pack(good())
+        self.writer_with_a_change(pack)
         self.assertEqual(judged_by_second(self.listing_of(pack)), "finding 541 3 2\ntotal 1\n")
+
+    def test_changes_are_seen_by_way_of_a_link(self) -> None:
+        pack, link = self.pack(good()), self.room / "elsewhere" / "link.gpkg"
+        link.parent.mkdir()
+        link.symlink_to(pack)
+        self.writer_with_a_change(pack)
+        self.assertEqual(judged_by_second(self.listing_of(link)), "finding 541 3 2\ntotal 1\n")
+
+    def test_a_wal_pack_with_changes_gets_no_files_beside_it(self) -> None:
+        """It was copied, with its changes, while somebody had it open."""
+        pack, room = self.pack(good()), self.room / "copy"
+        self.writer_with_a_change(pack)
+        room.mkdir()
+        for name in ["pack.gpkg", "pack.gpkg-wal"]:
+            shutil.copy(self.room / name, room / name)
+        before = self.files()
+        self.assertEqual(judged_by_second(self.listing_of(room / "pack.gpkg")), "finding 541 3 2\ntotal 1\n")
+        self.assertEqual(self.files(), before)
+
+    def test_a_pack_that_is_changed_while_it_is_copied_is_not_taken(self) -> None:
+        pack = self.pack(good())
+        self.writer_with_a_change(pack)
+        (self.room / "pack.gpkg-shm").unlink()
+        copy = shutil.copyfile
+
+        def copy_late(source: str, target: str) -> None:
+            copy(source, target)
+            os.utime(source)
+
+        with mock.patch.object(shutil, "copyfile", copy_late):
+            with self.assertRaisesRegex(Trouble, "the pack was changed while it was read; try again"):
+                self.listing_of(pack)
+
+    def test_a_copy_for_which_there_is_no_room(self) -> None:
+        pack = self.pack(good())
+        self.writer_with_a_change(pack)
+        (self.room / "pack.gpkg-shm").unlink()
+        with mock.patch.object(shutil, "copyfile", side_effect=OSError(28, "No space left on device")):
+            with self.assertRaisesRegex(Trouble, "cannot be copied to be read with them: No space left on device"):
+                self.listing_of(pack)
 
 
 class EmptyText(unittest.TestCase):

@@ -49,12 +49,74 @@ class WhatAListingCannotCarry(InRoom):
                 words = f"{wrong} stands where a listing carries {wanted}\n"
                 self.assertIn(f'{pack}: table "{table}", row {row} (rowid {row + 1}): {words}', said)
 
+    def test_all_of_them_are_told_at_once(self) -> None:
+        rows = planted([
+            (SRS, 0, (4326, None, "4326", "any")),
+            (CONTENTS, 0, ("farm", "tiles", 20240229, 4326)),
+            (FARM, 1, (1, None, 0)),
+        ])
+        said = self.trouble_with(self.pack(rows, "ALTER TABLE gpkg_extensions RENAME COLUMN scope TO reach"))
+        cells = [
+            (EXTENSIONS, ": there is no column scope"),
+            (SRS, ", row 0 (rowid 1): column organization_coordsys_id: the text \"4326\" stands"),
+            (SRS, ", row 0 (rowid 1): column organization: NULL stands"),
+            (CONTENTS, ", row 0 (rowid 1): column last_change: the INTEGER 20240229 stands"),
+            (FARM, ", row 1 (rowid 2): column tile_column: NULL stands"),
+        ]
+        lines = said.splitlines()
+        self.assertEqual(len(lines), len(cells) + 1)
+        for line, (table, words) in zip(lines, cells):
+            self.assertTrue(line.startswith(f'gpkg-listing: {self.room}/pack.gpkg: table "{table}"{words}'), line)
+        self.assertEqual(lines[-1], f"gpkg-listing: {self.room}/pack.gpkg: it has no listing, so nothing was judged")
+
+    def test_of_very_many_twenty_are_told_and_the_others_counted(self) -> None:
+        rows = good()
+        rows["farm"] = [(None, "x", at) for at in range(1_000)]
+        lines = self.trouble_with(self.pack(rows)).splitlines()
+        self.assertEqual(sum(" stands where a listing carries a whole number" in line for line in lines), 20)
+        self.assertEqual(lines[20:], [
+            f"gpkg-listing: {self.room}/pack.gpkg: and 1,980 more cells",
+            f"gpkg-listing: {self.room}/pack.gpkg: it has no listing, so nothing was judged",
+        ])
+
+    def test_missing_tiles_are_told_beside_them(self) -> None:
+        rows = planted([(SETS, 0, ("farm", None, 0.0, 0.0, 1.0, 1.0)), (CONTENTS, None, (None, "tiles", DATE, 4326))])
+        del rows["farm"]
+        said = self.trouble_with(self.pack(rows))
+        self.assertIn("column table_name: NULL stands", said)
+        self.assertIn("column srs_id: NULL stands", said)
+        self.assertIn('tiles of "farm": they are announced, but there is no such table or view', said)
+        self.assertNotIn('tiles of ""', said)
+
+    def test_very_many_tables(self) -> None:
+        rows = good()
+        rows[SETS] += [(f"t{at}", 4326, 0.0, 0.0, 1.0, 1.0) for at in range(30)]
+        lines = self.trouble_with(self.pack(rows, *(f"CREATE TABLE t{at} (x)" for at in range(30)))).splitlines()
+        self.assertEqual(sum("there is no column zoom_level" in line for line in lines), 20)
+        self.assertIn(f"gpkg-listing: {self.room}/pack.gpkg: and 10 more tables", lines)
+
+    def test_a_view_without_end_whose_cells_do_not_fit(self) -> None:
+        rows = good()
+        del rows["farm"]
+        endless = "WITH RECURSIVE n(i) AS (SELECT 0 UNION ALL SELECT i + 1 FROM n)"
+        view = f"CREATE VIEW farm AS {endless} SELECT NULL AS zoom_level, i AS tile_column, 0 AS tile_row FROM n"
+        said = self.trouble_with(self.pack(rows, view))
+        self.assertIn("and 262,125 more cells\n", said)
+        self.assertIn("a listing carries at most 262,144 rows of tiles", said)
+
     def test_a_value_in_a_view_has_its_row(self) -> None:
         rows = good()
         rows["leaves"] = rows.pop("farm")
         view = "CREATE VIEW farm AS SELECT zoom_level, tile_column, tile_row / 2.0 AS tile_row FROM leaves"
         pack = self.pack(rows, view)
         self.assertIn('view "farm", row 0: column tile_row: the REAL 0.0 stands', self.trouble_with(pack))
+
+    def test_a_value_in_a_view_has_its_id(self) -> None:
+        rows = good()
+        rows["leaves"] = rows.pop("farm")
+        columns = "70 + rowid AS ID, zoom_level, tile_column, tile_row / 2.0 AS tile_row"
+        said = self.trouble_with(self.pack(rows, f"CREATE VIEW farm AS SELECT {columns} FROM leaves"))
+        self.assertIn('view "farm", row 2 (id 73): column tile_row: the REAL 0.5 stands', said)
 
     def test_one_row_too_many_of_each_table(self) -> None:
         more: Dict[str, Tuple[int, Callable[[int], Tuple[object, ...]], str]] = {
@@ -71,13 +133,17 @@ class WhatAListingCannotCarry(InRoom):
                 last = len(rows[table]) - 1
                 pack = make_pack(self.room / f"{table}.gpkg", rows)
                 said = self.trouble_with(pack)
-                self.assertIn(f'table "{table}", row {last} (rowid {last + 1}): a listing carries {words}', said)
+                place = f'table "{table}", row {last} (rowid {last + 1})'
+                self.assertIn(f"{pack}: {place}: a listing carries {words} (docs/LISTING.md)\n", said)
+                self.assertIn(f"{pack}: it has no listing, so nothing was judged\n", said)
 
     def test_one_tile_too_many(self) -> None:
         rows = good()
         del rows["farm"]
         said = self.trouble_with(self.pack(rows, view_of_tiles(262_145)))
-        self.assertIn('view "farm", row 262144: a listing carries at most 262,144 rows of tiles', said)
+        words = "a listing carries at most 262,144 rows of tiles (docs/LISTING.md)"
+        self.assertIn(f'view "farm", row 262144: {words}\n', said)
+        self.assertIn("it has no listing, so nothing was judged\n", said)
 
     def test_one_name_octet_too_many(self) -> None:
         pack = self.pack(planted([(SRS, 1, (-1, "NONE", -1, "x" * 1_048_566))]))
@@ -144,7 +210,14 @@ class Files(InRoom):
     def test_empty(self) -> None:
         path = self.room / "empty.gpkg"
         path.touch()
-        self.assertIn("there is no table gpkg_spatial_ref_sys", self.trouble_with(path))
+        self.assertEqual(self.trouble_with(path), f"gpkg-listing: {path}: this file is empty\n")
+
+    def test_pipes_and_devices_are_not_opened(self) -> None:
+        os.mkfifo(self.room / "pipe.gpkg")
+        for path in [self.room / "pipe.gpkg", Path("/dev/zero")]:
+            ran = Ran(["timeout", "20", TOOLS / "gpkg-listing", path, "-"])
+            words = f"gpkg-listing: {path}: this is no ordinary file, so it is not read\n"
+            self.assertEqual((ran.status, ran.out, ran.err), (2, "", words))
 
     def test_header_alone(self) -> None:
         path = self.room / "header.gpkg"
@@ -225,6 +298,7 @@ class Out(InRoom):
     def test_folder_that_this_user_may_not_write_to(self) -> None:
         pack = self.pack(good())
         self.room.chmod(0o555)
+        self.addCleanup(self.room.chmod, 0o755)
         with as_nobody():
             self.assertIn("cannot be written: Permission denied", self.trouble_with(pack))
 

@@ -1,4 +1,4 @@
-"""Findings in words and pictures, from what the second program finds: no library is needed for them."""
+"""Findings in words, from what the second program finds: no library is needed for them."""
 
 from __future__ import annotations
 
@@ -7,8 +7,8 @@ import unittest
 import xml.dom.minidom
 from typing import List, Tuple
 
-from packs import DATE, PACKS, ROOT, SECOND, InRoom, Ran, judged_by_second, make_pack
-from test_listing import CONTENTS, EXTENSIONS, FARM, MATRICES, PLANTED, SETS, SRS, Change, planted
+from packs import DATE, ROOT, SECOND, InRoom, Ran, judged_by_second, make_pack
+from test_listing import CONTENTS, EXTENSIONS, FARM, INFINITE, MATRICES, PLANTED, SETS, SRS, Change, planted
 
 from desterlin import library, picture
 from desterlin.console import Trouble, shown
@@ -41,7 +41,29 @@ WORDS: "List[Tuple[List[Change], Finding, str]]" = [
      '"farm" zoom 1: pixel_x_size is 1.0, twice that 2.0, but zoom 0 has 4.0'),
     ([(SETS, 0, ("farm", 4326, 0.0, 0.0, 1024.0000000000011, 1024.0))], Finding(451, 0, None),
      '"farm" zoom 0: max_x 1024.0000000000011 - min_x 0.0 = 1024.0000000000011, but matrix_width 1 * tile_width 256 * '
-     "pixel_x_size 4.0 = 1024.0; that is 5 steps off, and 4 are allowed"),
+     "pixel_x_size 4.0 = 1024.0; that is 5 steps off, and 4 are allowed; 1.14e-12 in the map's units; 1.11e-15 of the "
+     "extent"),
+    ([(SETS, 0, ("farm", 4326, 0.0, 0.0, 1024.0, 1280.0))], Finding(452, 0, None),
+     '"farm" zoom 0: max_y 1280.0 - min_y 0.0 = 1280.0, but matrix_height 1 * tile_height 256 * pixel_y_size 4.0 = '
+     "1024.0; that is 1,125,899,906,842,624 steps off, and 4 are allowed; 256 in the map's units; 0.2 of the extent"),
+    # Without an extent there is no share of it, and without a number no difference.
+    ([(SETS, 0, ("farm", 4326, 0.0, 7.5, 1024.0, 7.5))], Finding(452, 0, None),
+     '"farm" zoom 0: max_y 7.5 - min_y 7.5 = 0.0, but matrix_height 1 * tile_height 256 * pixel_y_size 4.0 = 1024.0; '
+     "that is 1,024 in the map's units"),
+    ([(SETS, 0, ("farm", 4326, 0.0, 8.0, 1024.0, -8.0))], Finding(452, 0, None),
+     '"farm" zoom 0: max_y -8.0 - min_y 8.0 = -16.0, but matrix_height 1 * tile_height 256 * pixel_y_size 4.0 = '
+     "1024.0; that is 1,040 in the map's units"),
+    ([(SETS, 0, ("farm", 4326, -INFINITE, 0.0, INFINITE, 1024.0))], Finding(451, 0, None),
+     '"farm" zoom 0: max_x inf - min_x -inf = inf, but matrix_width 1 * tile_width 256 * pixel_x_size 4.0 = 1024.0'),
+    ([(SETS, 0, ("farm", 4326, INFINITE, 0.0, INFINITE, 1024.0))], Finding(451, 0, None),
+     '"farm" zoom 0: max_x inf - min_x inf = nan, but matrix_width 1 * tile_width 256 * pixel_x_size 4.0 = 1024.0'),
+    ([(SETS, 0, ("farm", 4326, 0.0, 0.0, 5e-324, 1024.0))], Finding(451, 0, None),
+     '"farm" zoom 0: max_x 5e-324 - min_x 0.0 = 5e-324, but matrix_width 1 * tile_width 256 * pixel_x_size 4.0 = '
+     "1024.0; that is 4,652,218,415,073,722,367 steps off, and 4 are allowed; 1,024 in the map's units"),
+    ([(MATRICES, 0, ("farm", 0, 1, 1, 256, 256, -1e308, 4.0)), (SETS, 0, ("farm", 4326, 0.0, 0.0, 1e308, 1024.0))],
+     Finding(451, 0, None),
+     '"farm" zoom 0: max_x 1e+308 - min_x 0.0 = 1e+308, but matrix_width 1 * tile_width 256 * pixel_x_size -1e+308 = '
+     "-inf"),
     ([(MATRICES, 1, ("farm", 1, 2, 2**62, 256, 256, 2.0, 2.0))], Finding(452, 1, None),
      '"farm" zoom 1: max_y 1024.0 - min_y 0.0 = 1024.0, but matrix_height 4611686018427387904 * tile_height 256 is '
      "above 2^53"),
@@ -102,55 +124,19 @@ class TheLibrarysLines(unittest.TestCase):
 
 class Texts(unittest.TestCase):
     def test_nothing_of_a_pack_commands_a_terminal(self) -> None:
-        self.assertEqual(shown(b"\x1b[2J\x07\n\xff\xe2\x80\xae\"\\"), '"\\x1b[2J\\x07\\n\\\\xff\\u202e\\"\\\\"')
+        self.assertEqual(shown(b"\x1b[2J\x07\n\xe2\x80\xae\"\\"), '"\\x1b[2J\\x07\\n\\u202e\\"\\\\"')
+
+    def test_octets_that_are_no_utf_8_are_escaped_once(self) -> None:
+        self.assertEqual(shown(b"a\xff\xed\xa0\x80"), '"a\\xff\\xed\\xa0\\x80"')
+        # A letter that has the number of such an octet, and the escape itself, are told from it.
+        self.assertEqual(shown("\xff \x9b \xa0".encode()), '"ÿ \\u009b \\u00a0"')
+        self.assertEqual(shown(b"\\xff"), '"\\\\xff"')
 
     def test_long_ones_are_cut(self) -> None:
         self.assertEqual(shown(b"x" * 1000), '"' + "x" * 80 + '"… (1000 octets)')
 
     def test_null_is_not_a_text(self) -> None:
         self.assertEqual((shown(None), shown(b"NULL"), shown(b"")), ("NULL", '"NULL"', '""'))
-
-
-class Picture(InRoom):
-    def drawn(self, changes: "List[Change]") -> str:
-        listing = self.listing_of(self.pack(planted(changes)))
-        drawn = picture.drawn("farm", Listing(listing), findings_in(listing))
-        xml.dom.minidom.parseString(drawn)
-        return drawn.decode("utf-8")
-
-    def marks(self, drawn: str, kind: str) -> int:
-        """How many marks there are beside the one of the legend."""
-        signs = {"doubled": r'fill="none" stroke="#d62728"', "outside": r'Z" fill="#e69500"', "unplaced": "<circle"}
-        return len(re.findall(signs[kind], drawn)) - 1
-
-    def test_good_pack_has_no_marks(self) -> None:
-        drawn = self.drawn([])
-        self.assertEqual([self.marks(drawn, kind) for kind in ["doubled", "outside", "unplaced"]], [0, 0, 0])
-        self.assertIn("2 levels, 3 tiles, unplaced 0, outside 0, doubled 0", drawn)
-
-    def test_marks(self) -> None:
-        drawn = self.drawn([(FARM, None, (1, 0, 0)), (FARM, None, (1, 5, -7)), (FARM, None, (4, 0, 0))])
-        self.assertEqual([self.marks(drawn, kind) for kind in ["doubled", "outside", "unplaced"]], [1, 1, 1])
-        self.assertIn("column 5, row -7: outside (tiles row 4)", drawn)
-        self.assertIn("unplaced 1, outside 1, doubled 2", drawn)
-
-    def test_a_large_level_says_that_it_is_one(self) -> None:
-        drawn = self.drawn([(MATRICES, 1, ("farm", 1, 2**40, 2**40, 256, 256, 2.0, 2.0))])
-        self.assertIn("a large level: each square stands for 22,906,492,246 × 22,906,492,246 tiles", drawn)
-        self.assertLess(len(drawn), 100_000)
-
-    def test_of_many_levels_those_with_marks_are_drawn(self) -> None:
-        levels: "List[Change]" = [(MATRICES, None, ("farm", zoom, 1, 1, 1, 1, 1.0, 1.0)) for zoom in range(2, 100)]
-        drawn = self.drawn([*levels, (FARM, None, (99, 3, 0))])
-        self.assertIn("only 60 levels are drawn, those with marks first", drawn)
-        self.assertIn('"farm" zoom 99<', drawn.replace("&quot;", '"'))
-        self.assertNotIn('"farm" zoom 98<', drawn.replace("&quot;", '"'))
-
-    def test_valley(self) -> None:
-        listing = self.listing_of(PACKS / "valley.gpkg")
-        drawn = picture.drawn("valley", Listing(listing), findings_in(listing)).decode("utf-8")
-        self.assertEqual(self.marks(drawn, "doubled"), 1)
-        self.assertIn("column 1, row 2: doubled (tiles row 16)", drawn)
 
 
 class OneWordForEachThing(unittest.TestCase):

@@ -1,27 +1,45 @@
-"""A GeoPackage's rows as a listing, with a note of where each row came from.
+"""A GeoPackage's rows as a listing, with a note of where each row came from, and of what is left out.
 
-What a listing cannot carry is Trouble, told with its table and row. Nothing is mended on the way: a mended pack would
-be judged in the place of the one that is shipped.
+What a listing cannot carry is Trouble, told with its table and row, all of it at once. Nothing is mended on the way: a
+mended pack would be judged in the place of the one that is shipped.
 """
 
 from __future__ import annotations
 
 import contextlib
 import os
+import shutil
 import sqlite3
+import tempfile
 import urllib.parse
-from array import array
-from typing import Callable, Dict, Iterator, List, NamedTuple, Optional, Sequence, Tuple
+from typing import Callable, Dict, Iterator, List, NamedTuple, Optional, Sequence, Set, Tuple
 
 from . import listing
-from .console import Trouble, counted, shown, told
+from .console import counted, shown, told, trouble_with
+from .files import start_of
 from .listing import Draft, Field, Kind, Overfull, Table, Value
+
+# What every SQLite file begins with.
+MAGIC = b"SQLite format 3\0"
 
 # How long to wait for another program that is writing the pack.
 LOCK_SECONDS = 2.0
 
 # How many rows are read from one word on the progress line to the next.
 ROWS_A_WORD = 20_000
+
+# How many steps SQLite takes, some milliseconds, before Python may look whether somebody pressed Ctrl-C.
+STEPS_A_LOOK = 100_000
+
+# How many complaints of one kind are told in full.
+MOST_COMPLAINTS = 20
+
+# What PRAGMA table_xinfo says of a column that SELECT * leaves out.
+HIDDEN = 1
+
+# The columns by which a table of tiles is known (GeoPackage 1.2.1, Table 10).
+TILE_COLUMNS = {"zoom_level", "tile_column", "tile_row", "tile_data"}
+NAMED_BY_NOTHING = "it has the columns of tiles, and no row of contents (as tiles), matrix sets or matrices names it"
 
 SQL_NAMES = {
     listing.REFERENCES: b"gpkg_spatial_ref_sys",
@@ -50,74 +68,140 @@ class Relation(NamedTuple):
 
 
 class Source(NamedTuple):
-    """Rows of a listing's table that came from one table or view of the pack."""
+    """Rows of a listing's table that came from one table or view of the pack. The keys are the rows' rowids; where
+    there is none, as in a view, the whole numbers in a column `id`."""
 
     relation: Relation
     first: int
-    rowids: Optional[Sequence[int]]
+    keyed_by: str
+    keys: List[Optional[int]]
+
+    def origin(self, row: int) -> str:
+        """Where a row of the listing stands in the pack."""
+        at = row - self.first
+        key = self.keys[at]
+        if key is None:
+            return f"{self.relation.words()} row {at}"
+        place = "" if self.keyed_by == "rowid" else f"row {at}, "
+        return f"{self.relation.words()} {place}{self.keyed_by} {key}"
 
 
 class Exported(NamedTuple):
     octets: bytes
     sources: Dict[Table, List[Source]]
-    notes: List[str]
+    not_judged: List[str]
 
 
 class Unfit(Exception):
     """A value that its field of a listing cannot carry."""
 
 
+class Complaints:
+    """What hinders a listing: the first of a kind in words, and the number of the others."""
+
+    def __init__(self, kind: str) -> None:
+        self.kind = kind
+        self.first: List[str] = []
+        self.more = 0
+
+    def add(self, words: str) -> None:
+        if len(self.first) < MOST_COMPLAINTS:
+            self.first.append(words)
+        else:
+            self.more += 1
+
+    def lines(self) -> List[str]:
+        return [*self.first, f"and {self.more:,} more {self.kind}"] if self.more else self.first
+
+
 def export(path: str, say: Callable[[str], None]) -> Exported:
     """The listing of a pack; `say` is told how far the reading has come."""
-    is_settled = check_file(path)
-    before = state(path)
-    try:
-        with contextlib.closing(opened(path, is_settled)) as connection:
-            exported = Export(path, connection, say).exported()
-    except SQLITE_ERRORS as error:
-        raise Trouble(f"{path}: {words_of_sqlite(error)}") from error
-    if is_settled and state(path) != before:
-        raise Trouble(f"{path}: the pack was changed while it was read; try again")
-    return exported
-
-
-def check_file(path: str) -> bool:
-    """The plain mistakes, in plainer words than SQLite has for them. The answer is whether the pack is of the kind that
-    keeps its changes in a file beside it (WAL), and has none there."""
-    try:
-        with open(path, "rb") as file:
-            start = file.read(100)
-    except OSError as error:
-        raise Trouble(f"{path}: cannot be read: {told(error)}") from error
-    if start and not start.startswith(b"SQLite format 3\0"):
-        raise Trouble(f"{path}: this is no SQLite file, so no GeoPackage")
+    start = start_of(path, 100)
+    if not start.startswith(MAGIC):
+        raise trouble_with(path, "this is no SQLite file, so no GeoPackage")
     # Octet 19 is the version needed for reading: 2 with WAL.
-    return start[19:20] == b"\2" and not has_changes_beside(path)
-
-
-def has_changes_beside(path: str) -> bool:
+    uses_wal = start[19:20] == b"\2"
     try:
-        return os.path.getsize(path + "-wal") > 0
-    except OSError:
-        return False
+        with address_of(path, uses_wal, say) as address, contextlib.closing(opened(address)) as connection:
+            return Export(path, connection, say).exported()
+    except SQLITE_ERRORS as error:
+        raise trouble_with(path, words_of_sqlite(error)) from error
 
 
-def state(path: str) -> Tuple[object, ...]:
-    """Differs once the pack has been changed."""
+@contextlib.contextmanager
+def address_of(path: str, uses_wal: bool, say: Callable[[str], None]) -> Iterator[str]:
+    """Where SQLite is to read a pack, so that nothing new is left beside it. A pack that keeps its changes in a file
+    beside it (WAL) is read without locks where it has none there, since those would be two new files; where it has
+    some, and nobody has it open, a copy is read."""
+    # SQLite looks beside the file itself, and not beside a link to it.
+    real = os.path.realpath(path)
+    before = state(path)
+    if before.beside is not None and not os.path.exists(real + "-shm"):
+        say("copying the pack, which has changes in a file beside it")
+        with copied(path) as copy:
+            check_unchanged(path, before)
+            yield address(copy, "")
+    elif uses_wal and before.beside is None:
+        yield address(real, "&immutable=1")
+        check_unchanged(path, before)
+    else:
+        yield address(real, "")
+
+
+class State(NamedTuple):
+    """Differs once the pack has been changed: what is known of its file, and of that with its changes, if there are
+    any beside it."""
+
+    itself: Tuple[int, int, int]
+    beside: Optional[Tuple[int, int, int]]
+
+
+def state(path: str) -> State:
+    real = os.path.realpath(path)
+    beside = None
     try:
-        status = os.stat(path)
+        with contextlib.suppress(FileNotFoundError):
+            beside = known_of(real + "-wal")
+        return State(known_of(real), beside if beside and beside[1] > 0 else None)
     except OSError as error:
-        raise Trouble(f"{path}: cannot be read: {told(error)}") from error
-    return status.st_ino, status.st_size, status.st_mtime_ns, has_changes_beside(path)
+        raise trouble_with(path, f"cannot be read: {told(error)}") from error
 
 
-def opened(path: str, is_settled: bool) -> sqlite3.Connection:
+def known_of(file: str) -> Tuple[int, int, int]:
+    status = os.stat(file)
+    return status.st_ino, status.st_size, status.st_mtime_ns
+
+
+def check_unchanged(path: str, before: State) -> None:
+    if state(path) != before:
+        raise trouble_with(path, "the pack was changed while it was read; try again")
+
+
+@contextlib.contextmanager
+def copied(path: str) -> Iterator[str]:
+    real = os.path.realpath(path)
+    with contextlib.ExitStack() as stack:
+        try:
+            room = stack.enter_context(tempfile.TemporaryDirectory(prefix="desterlin-"))
+            copy = os.path.join(room, "pack.gpkg")
+            shutil.copyfile(real, copy)
+            shutil.copyfile(real + "-wal", copy + "-wal")
+        except OSError as error:
+            why = "it has changes in a file beside it, and cannot be copied to be read with them"
+            raise trouble_with(path, f"{why}: {told(error)}") from error
+        yield copy
+
+
+def address(path: str, more: str) -> str:
+    return f"file:{urllib.parse.quote(os.fsencode(path))}?mode=ro{more}"
+
+
+def opened(address: str) -> sqlite3.Connection:
     """A connection that cannot write, in a transaction, so that a pack that is being changed is seen as it was at one
-    moment. A settled WAL pack is read without locks, since those would be two new files beside it."""
-    address = "file:" + urllib.parse.quote(os.fsencode(os.path.abspath(path)))
-    address += f"?mode=ro&immutable={int(is_settled)}"
+    moment."""
     connection = sqlite3.connect(address, uri=True, timeout=LOCK_SECONDS, isolation_level=None)
     connection.text_factory = SqlText
+    connection.set_progress_handler(lambda: 0, STEPS_A_LOOK)
     # A view is code of the pack: it may compute, and may not act.
     connection.execute("PRAGMA trusted_schema = OFF")
     connection.execute("PRAGMA query_only = ON")
@@ -130,6 +214,9 @@ SQLITE_ERRORS = (sqlite3.Error, UnicodeError)
 
 
 def words_of_sqlite(error: Exception) -> str:
+    if str(error) == "interrupted":
+        # Ctrl-C came while SQLite was at work, and sqlite3 tells it in this way.
+        raise KeyboardInterrupt from error
     said = f"(SQLite: {error})"
     if isinstance(error, UnicodeError):
         return f"the file is damaged, or has a name that is no UTF-8 ({error})"
@@ -176,6 +263,11 @@ def described(value: object) -> str:
     return f"the INTEGER {value}"
 
 
+def stand_in(field: Field) -> Value:
+    """For a value that does not fit: the reading goes on, to find the others, and what is read is thrown away."""
+    return b"" if field.kind in (Kind.TEXT, Kind.TEXT_OR_NULL) else 0
+
+
 class Export:
     """One pass over a pack."""
 
@@ -185,7 +277,9 @@ class Export:
         self.say = say
         self.draft = Draft()
         self.sources: Dict[Table, List[Source]] = {table: [] for table in listing.TABLES}
-        self.notes: List[str] = []
+        self.bad_tables = Complaints("tables")
+        self.bad_cells = Complaints("cells")
+        self.not_judged: List[str] = []
         rows = connection.execute("SELECT type, name FROM sqlite_master WHERE type IN ('table', 'view')")
         self.relations = {without_case(name): Relation(bytes(name), kind == b"view") for kind, name in rows}
 
@@ -196,10 +290,19 @@ class Export:
         needed_by = "gpkg_contents names tiles" if has_tiles else None
         self.add_metadata(listing.SETS, needed_by)
         self.add_metadata(listing.MATRICES, needed_by)
-        for name in self.tile_names():
+        names = self.tile_names()
+        for name in names:
             self.add_tiles(name)
         self.add_metadata(listing.EXTENSIONS, needed_by=None)
-        return Exported(self.draft.listing(), self.sources, self.notes)
+        if self.is_hindered():
+            lines = [*self.bad_tables.lines(), *self.bad_cells.lines(), *self.not_judged]
+            lines.append("it has no listing, so nothing was judged")
+            raise trouble_with(self.path, *lines)
+        self.note_unnamed(set(map(without_case, names)))
+        return Exported(self.draft.listing(), self.sources, self.not_judged)
+
+    def is_hindered(self) -> bool:
+        return bool(self.bad_tables.first or self.bad_cells.first)
 
     def so_far(self) -> listing.Listing:
         return listing.Listing(self.draft.listing())
@@ -212,7 +315,7 @@ class Export:
             self.say(f"reading {name.decode()}")
             self.add_rows(table, relation, [])
         elif needed_by is not None:
-            raise Trouble(f"{self.path}: there is no table {name.decode()}, and {needed_by}")
+            self.bad_tables.add(f"there is no table {name.decode()}, and {needed_by}")
 
     def tile_names(self) -> List[bytes]:
         """The tables whose tiles are listed: those that are named in contents as tiles, in a matrix set or in a
@@ -222,59 +325,79 @@ class Export:
         names += [row.table_name for row in rows.sets()]
         names += [row.table_name for row in rows.matrices()]
         first_spelled: Dict[bytes, bytes] = {}
-        for name in names:
-            first_spelled.setdefault(without_case(name), name)
+        for name in dict.fromkeys(names):
+            first = first_spelled.setdefault(without_case(name), name)
+            if first != name and without_case(name) in self.relations:
+                same = f"to SQLite that is {shown(first)}, and as tiles of {shown(first)} they are judged"
+                self.not_judged.append(f"tiles of {shown(name)}: {same}")
+        if self.is_hindered():
+            # It may be the stand-in for a name.
+            first_spelled.pop(b"", None)
         return list(first_spelled.values())
 
     def add_tiles(self, name: bytes) -> None:
         relation = self.relations.get(without_case(name))
         if relation is None:
-            missing = "are announced, but there is no such table or view; none are listed"
-            self.notes.append(f"tiles of {shown(name)} {missing}")
+            self.not_judged.append(f"tiles of {shown(name)}: they are announced, but there is no such table or view")
         else:
+            self.say(f"reading the {relation.words()}")
             self.add_rows(listing.TILES, relation._replace(name=name), [name])
 
     def add_rows(self, table: Table, relation: Relation, given: Sequence[Value]) -> None:
         """All rows of a table or view. `given` are the values of the first fields, the others are columns."""
         fields = table.fields[len(given):]
-        first = self.draft.counts[table]
-        rowids = array("q")
-        at, key = -1, None
+        at, key, source = -1, None, None
         try:
-            rowid = self.rowid_name(relation)
-            for at, (key, *cells) in enumerate(self.selected(relation, fields, rowid)):
-                values = [fitted(field, cell) for field, cell in zip(fields, cells)]
+            keyed_by, selected = self.selected(relation, fields)
+            source = Source(relation, self.draft.counts[table], keyed_by, [])
+            for at, (key, *cells) in enumerate(selected):
+                try:
+                    values = [fitted(field, cell) for field, cell in zip(fields, cells)]
+                except Unfit:
+                    values = self.stand_ins(fields, cells, place(relation, at, source, key))
                 self.draft.add(table, [*given, *values])
-                if isinstance(key, int):
-                    rowids.append(key)
+                source.keys.append(key)
                 if at % ROWS_A_WORD == ROWS_A_WORD - 1:
                     self.say(f"reading the {relation.words()}: {at + 1:,} rows")
+            self.sources[table].append(source)
         except (Unfit, Overfull) as error:
-            raise Trouble(f"{self.path}: {place(relation, at, key)}: {error}") from error
+            self.bad_tables.add(f"{place(relation, at, source, key)}: {error}")
         except SQLITE_ERRORS as error:
-            raise Trouble(f"{self.path}: {place(relation, at, key)}: {words_of_sqlite(error)}") from error
-        self.sources[table].append(Source(relation, first, rowids if rowid is not None else None))
+            self.bad_tables.add(f"{place(relation, at, source, key)}: {words_of_sqlite(error)}")
 
-    def selected(self, relation: Relation, fields: Sequence[Field], rowid: Optional[str]) -> Iterator[Cells]:
-        """The rows, each with its rowid or NULL before its columns: in rowid order, or those of a view in the order in
-        which SELECT * gives them."""
+    def stand_ins(self, fields: Sequence[Field], cells: Sequence[object], where: str) -> List[Value]:
+        """The values of a row in which some do not fit; each of those is complained of."""
+        values = []
+        for field, cell in zip(fields, cells):
+            try:
+                values.append(fitted(field, cell))
+            except Unfit as error:
+                self.bad_cells.add(f"{where}: {error}")
+                values.append(stand_in(field))
+        return values
+
+    def selected(self, relation: Relation, fields: Sequence[Field]) -> Tuple[str, Iterator[Cells]]:
+        """By what the rows are known, and the rows, each with that key, or NULL, before its columns: in rowid order, or
+        those of a view in the order in which SELECT * gives them."""
         there = self.columns(relation)
         for field in fields:
             if field.name not in there:
                 raise Unfit(f"there is no column {field.name}")
-        columns = ", ".join([rowid or "NULL", *(field.name for field in fields)])
+        columns = ", ".join(field.name for field in fields)
         source = quoted(relation)
+        rowid = self.rowid_name(relation, there)
         if rowid is not None:
             # Of the table's indexes none is read: in a damaged pack they may disagree with the table.
-            return self.connection.execute(f"SELECT {columns} FROM {source} NOT INDEXED ORDER BY {rowid}")
+            query = f"SELECT {rowid}, {columns} FROM {source} NOT INDEXED ORDER BY {rowid}"
+            return "rowid", self.connection.execute(query)
+        key = "CASE typeof(id) WHEN 'integer' THEN id END" if "id" in there else "NULL"
         # Asked for the addresses alone, SQLite would go through an index of addresses, and give its order. Asking for
         # the type of every column, it goes as for SELECT *, and still reads no tile's image.
         types = ", ".join(f"typeof({in_quotes(column)})" for column in there)
-        return self.connection.execute(f"SELECT {columns}, {types} FROM {source}")
+        return "id", self.connection.execute(f"SELECT {key}, {columns}, {types} FROM {source}")
 
-    def rowid_name(self, relation: Relation) -> Optional[str]:
+    def rowid_name(self, relation: Relation, there: Sequence[str]) -> Optional[str]:
         """What SQL calls the rowid: a column may have taken one of its names. None where there is no rowid."""
-        there = self.columns(relation)
         for name in ["rowid", "_rowid_", "oid"]:
             if name not in there and not relation.is_view:
                 with contextlib.suppress(sqlite3.OperationalError):
@@ -283,18 +406,63 @@ class Export:
         return None
 
     def columns(self, relation: Relation) -> List[str]:
-        """The names of the columns, in lower case: SQLite knows them in any."""
-        cursor = self.connection.execute(f"SELECT * FROM {quoted(relation)} LIMIT 0")
-        return [without_case(column[0].encode()).decode() for column in cursor.description]
+        """The names of the columns that SELECT * gives, in lower case: SQLite knows them in any. A query for them, even
+        one for no rows, might have to work a view out first."""
+        rows = self.connection.execute(f"PRAGMA main.table_xinfo({sql_name(relation)})").fetchall()
+        return [without_case(name).decode() for _, name, *_, hidden in rows if hidden != HIDDEN]
+
+    def note_unnamed(self, listed: Set[bytes]) -> None:
+        """Notes each table or view that has the columns of tiles and whose rows are not listed, neither under its own
+        name nor by way of a view. This comes last: from here on every query is watched."""
+        unnamed = [name for name in self.relations if name not in listed and self.has_tile_columns(name)]
+        if not unnamed:
+            return
+        seen: Set[bytes] = set()
+        self.connection.set_authorizer(lambda action, *names: watched(action, names[0], seen))
+        for name in listed:
+            self.prepare_view(name)
+        shown_by_views = set(seen)
+        for name in unnamed:
+            seen.clear()
+            self.prepare_view(name)
+            # A view that shows listed tables, and nothing else, has no rows beside theirs.
+            is_listed = name in shown_by_views or bool(seen - {name}) and seen - {name} <= listed
+            if not is_listed:
+                self.not_judged.append(f"{self.relations[name].words()}: {NAMED_BY_NOTHING}")
+
+    def has_tile_columns(self, name: bytes) -> bool:
+        # What cannot be asked for its columns and is named by nothing, as a view of what is gone, holds no tiles.
+        with contextlib.suppress(Unfit, *SQLITE_ERRORS):
+            return TILE_COLUMNS <= set(self.columns(self.relations[name]))
+        return False
+
+    def prepare_view(self, name: bytes) -> None:
+        """Has SQLite plan the query of a view, and so name what it reads, without running it."""
+        relation = self.relations.get(name)
+        if relation is not None and relation.is_view:
+            # What cannot be planned names nothing, and what it shows is then told as not judged.
+            with contextlib.suppress(*SQLITE_ERRORS):
+                self.connection.execute(f"EXPLAIN SELECT * FROM {quoted(relation)}")
 
 
-def place(relation: Relation, at: int, rowid: object) -> str:
-    """Where the reading stopped: at a row, or before the first one."""
+def watched(action: int, name: Optional[str], seen: Set[bytes]) -> int:
+    """SQLite asks this whether a query may read a table; it may, and the table is noted."""
+    if action == sqlite3.SQLITE_READ and name:
+        seen.add(without_case(name.encode()))
+    return sqlite3.SQLITE_OK
+
+
+def place(relation: Relation, at: int, source: Optional[Source], key: object) -> str:
+    """Where the reading is: at a row, or before the first one."""
     row = "" if at < 0 else f", row {at}"
-    return relation.words() + row + ("" if rowid is None else f" (rowid {rowid})")
+    return relation.words() + row + ("" if source is None or key is None else f" ({source.keyed_by} {key})")
 
 
 def quoted(relation: Relation) -> str:
+    return f"main.{sql_name(relation)}"
+
+
+def sql_name(relation: Relation) -> str:
     """A table's name for SQL; inside the quotes nothing but a quote has a meaning."""
     try:
         name = relation.name.decode("utf-8")
@@ -302,7 +470,7 @@ def quoted(relation: Relation) -> str:
         raise Unfit("its name is not UTF-8, so SQLite cannot be asked for it") from error
     if "\0" in name:
         raise Unfit("its name has a zero octet, so SQLite cannot be asked for it")
-    return "main." + in_quotes(name)
+    return in_quotes(name)
 
 
 def in_quotes(name: str) -> str:

@@ -127,7 +127,7 @@ class Draft:
     def add(self, table: Table, values: Sequence[Value]) -> None:
         """One more row; the values are of the fields' kinds."""
         if self.counts[table] == table.most:
-            raise Overfull(f"a listing carries at most {table.most:,} rows of {table.title}")
+            raise Overfull(f"a listing carries at most {table.most:,} rows of {table.title} (docs/LISTING.md)")
         words: List[Union[int, float]] = []
         for field, value in zip(table.fields, values):
             words.extend(self.words(field.kind, value))
@@ -149,7 +149,7 @@ class Draft:
         if start is None:
             start = len(self.names)
             if start + len(octets) > NAMES_MOST:
-                raise Overfull(f"a listing carries at most {NAMES_MOST:,} octets of names and texts")
+                raise Overfull(f"a listing carries at most {NAMES_MOST:,} octets of names and texts (docs/LISTING.md)")
             self.starts[bytes(octets)] = start
             self.names += octets
         return start, len(octets)

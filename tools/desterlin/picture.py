@@ -1,20 +1,24 @@
 """The pyramids of a listing as a picture: each level a frame with its tiles, and those at wrong addresses marked.
 
-What is wrong is taken from the findings and not judged again: doubled is 541, outside 561 or 571, unplaced 441. In a
-large level a square stands for several tiles, and of very many levels not all are drawn; the picture says so.
+What is wrong is taken from the findings and not judged again: doubled is 541, outside 561 or 571, unplaced 441. Of a
+level that is mostly empty only the part with tiles is drawn, in a large one a square stands for several tiles, levels
+without tiles are left out, and of very many not all are drawn; the picture says so.
 """
 
 from __future__ import annotations
 
+from html import escape
 from typing import Dict, Iterable, Iterator, List, NamedTuple, Optional, Sequence, Set, Tuple
-from xml.sax.saxutils import escape
 
-from .console import counted, shown
+from .console import counted, plain, shown
 from .listing import Listing, Matrix
 from .rules import Finding
 
 MOST_LEVELS = 60
 MOST_SQUARES_A_SIDE = 48
+
+# A level of at most so many tiles a side is drawn whole, however empty: each of its squares is still well seen.
+WHOLE_SIDE = 16
 MOST_WORDS_A_MARK = 4
 
 # Measures in pixels.
@@ -47,6 +51,37 @@ class Spot(NamedTuple):
     faults: Tuple[str, ...]
 
 
+class Frame(NamedTuple):
+    """A part of a level: its first column and row, its width and height."""
+
+    left: int
+    top: int
+    width: int
+    height: int
+
+    def holds(self, spot: Spot) -> bool:
+        is_beside = 0 <= spot.column - self.left < self.width
+        return is_beside and 0 <= spot.row - self.top < self.height
+
+    def widened(self) -> Frame:
+        return Frame(self.left - 1, self.top - 1, self.width + 2, self.height + 2)
+
+    def within(self, whole: Frame) -> Frame:
+        left, top = max(self.left, whole.left), max(self.top, whole.top)
+        right = min(self.left + self.width, whole.left + whole.width)
+        bottom = min(self.top + self.height, whole.top + whole.height)
+        return Frame(left, top, right - left, bottom - top)
+
+    def words(self) -> Iterator[str]:
+        yield f"shown are columns {self.left:,} to {self.left + self.width - 1:,}"
+        yield f"and rows {self.top:,} to {self.top + self.height - 1:,}"
+
+
+def around(spots: Sequence[Spot]) -> Frame:
+    columns, rows = [spot.column for spot in spots], [spot.row for spot in spots]
+    return Frame(min(columns), min(rows), max(columns) - min(columns) + 1, max(rows) - min(rows) + 1)
+
+
 class Level:
     """The tiles of one name and zoom, and the first matrix that they have."""
 
@@ -66,12 +101,21 @@ class Level:
         faults = [f"{fault} {self.count(fault):,}" for fault in FAULTS if self.count(fault)]
         return ", ".join([size, counted(len(self.spots), "tile"), *faults])
 
-    def frame(self) -> Tuple[int, int, int, int]:
-        """First column and row, width and height of what is drawn: the matrix, or else where the tiles are."""
+    def whole(self) -> Frame:
+        """The matrix, or else where the tiles are."""
         if self.matrix is not None:
-            return 0, 0, max(self.matrix.matrix_width, 0), max(self.matrix.matrix_height, 0)
-        columns, rows = [spot.column for spot in self.spots], [spot.row for spot in self.spots]
-        return min(columns), min(rows), max(columns) - min(columns) + 1, max(rows) - min(rows) + 1
+            return Frame(0, 0, max(self.matrix.matrix_width, 0), max(self.matrix.matrix_height, 0))
+        return around(self.spots)
+
+    def frame(self) -> Frame:
+        """What is drawn: the whole, or of one that is mostly empty the part that has the tiles, and one tile more on
+        each side."""
+        whole = self.whole()
+        inside = [spot for spot in self.spots if whole.holds(spot)]
+        if not inside or max(whole.width, whole.height) <= WHOLE_SIDE:
+            return whole
+        part = around(inside)
+        return part.widened().within(whole) if 2 * part.width * part.height < whole.width * whole.height else whole
 
 
 def drawn(title: str, listing: Listing, findings: Sequence[Finding]) -> bytes:
@@ -118,18 +162,20 @@ def faults_by_row(findings: Iterable[Finding]) -> Dict[int, Tuple[str, ...]]:
 
 
 def chosen_levels(levels: Sequence[Level]) -> List[Level]:
-    """Where there are too many, those with marks come first."""
-    if len(levels) <= MOST_LEVELS:
-        return list(levels)
-    ranked = sorted(range(len(levels)), key=lambda at: (not levels[at].is_marked(), at))
-    return [levels[at] for at in sorted(ranked[:MOST_LEVELS])]
+    """Those with tiles; where they are too many, those with marks come first."""
+    filled = [level for level in levels if level.spots]
+    ranked = sorted(range(len(filled)), key=lambda at: (not filled[at].is_marked(), at))
+    return [filled[at] for at in sorted(ranked[:MOST_LEVELS])]
 
 
 def heading(title: str, levels: Sequence[Level], drawn_count: int) -> Iterator[str]:
-    yield text(GAP, 34, shown(title.encode("utf-8", "backslashreplace"))[1:-1], "title")
+    yield text(GAP, 34, plain(title), "title")
     words = [counted(len(levels), "level"), counted(sum(len(level.spots) for level in levels), "tile")]
     words += [f"{fault} {sum(level.count(fault) for level in levels):,}" for fault in FAULTS]
-    if drawn_count < len(levels):
+    empty = sum(not level.spots for level in levels)
+    if empty:
+        words.append(f"{counted(empty, 'level')} without tiles left out")
+    if drawn_count < len(levels) - empty:
         words.append(f"only {drawn_count} levels are drawn, those with marks first")
     yield text(GAP, 58, ", ".join(words))
     x = GAP
@@ -144,9 +190,9 @@ class Panel:
 
     def __init__(self, level: Level) -> None:
         self.level = level
-        self.left, self.top, width, height = level.frame()
-        self.tiles = max(1, -(-max(width, height) // MOST_SQUARES_A_SIDE))
-        self.across, self.down = -(-width // self.tiles), -(-height // self.tiles)
+        self.part = level.frame()
+        self.tiles = max(1, -(-max(self.part.width, self.part.height) // MOST_SQUARES_A_SIDE))
+        self.across, self.down = -(-self.part.width // self.tiles), -(-self.part.height // self.tiles)
         # One square more on each side is for what lies outside.
         self.size = min(LARGEST_SQUARE, PANEL / (max(self.across, self.down) + 2))
         self.foot = list(self.words_below())
@@ -155,6 +201,8 @@ class Panel:
         return round(HEAD + self.size * (self.down + 2) + LINE * (len(self.foot) + 1))
 
     def words_below(self) -> Iterator[str]:
+        if self.part != self.level.whole():
+            yield from self.part.words()
         if self.tiles > 1:
             yield f"a large level: each square stands for {self.tiles:,} × {self.tiles:,} tiles"
         yield from mark_words([spot for spot in self.level.spots if spot.faults])
@@ -178,8 +226,8 @@ class Panel:
         """The tiles by their square. What lies outside goes to a square beside the nearest edge."""
         squares: Dict[Square, List[Spot]] = {}
         for spot in self.level.spots:
-            column = min(max((spot.column - self.left) // self.tiles, -1), self.across)
-            row = min(max((spot.row - self.top) // self.tiles, -1), self.down)
+            column = min(max((spot.column - self.part.left) // self.tiles, -1), self.across)
+            row = min(max((spot.row - self.part.top) // self.tiles, -1), self.down)
             squares.setdefault((column, row), []).append(spot)
         return squares
 
@@ -193,10 +241,11 @@ class Panel:
             if any(fault in spot.faults for spot in marked):
                 yield mark(fault, self.size)
         if marked:
-            yield f"<title>{escape(chr(10).join(mark_words(marked)))}</title>"
+            yield f"<title>{escape(chr(10).join(mark_words(marked)), quote=False)}</title>"
 
     def frame(self) -> Iterator[str]:
-        """The border of the matrix, with lines between its squares where those are large enough."""
+        """The border of the matrix, broken where the matrix goes on, with lines between its squares where those are
+        large enough."""
         if self.level.matrix is None:
             return
         width, height = self.across * self.size, self.down * self.size
@@ -205,7 +254,16 @@ class Panel:
         yield f'<g transform="translate({self.size:.2f},{self.size:.2f})" fill="none">'
         if self.size >= 8:
             yield f'<path d="{"".join(lines)}" stroke="#999" stroke-width="0.5"/>'
-        yield f'<rect width="{width:.2f}" height="{height:.2f}" stroke="#333"/></g>'
+        part, whole = self.part, self.level.whole()
+        edges = [
+            (f"M0 0V{height:.2f}", part.left == whole.left),
+            (f"M0 0H{width:.2f}", part.top == whole.top),
+            (f"M{width:.2f} 0V{height:.2f}", part.left + part.width == whole.left + whole.width),
+            (f"M0 {height:.2f}H{width:.2f}", part.top + part.height == whole.top + whole.height),
+        ]
+        for edge, is_end in edges:
+            yield f'<path d="{edge}" stroke="#333"' + ("/>" if is_end else ' stroke-dasharray="2 4"/>')
+        yield "</g>"
 
 
 def mark(kind: str, size: float, more: str = "") -> str:
@@ -232,4 +290,4 @@ def mark_words(spots: Sequence[Spot]) -> Iterator[str]:
 
 def text(x: float, y: float, words: str, kind: str = "") -> str:
     of_kind = f' class="{kind}"' if kind else ""
-    return f'<text x="{x}" y="{y}"{of_kind}>{escape(words)}</text>'
+    return f'<text x="{x}" y="{y}"{of_kind}>{escape(words, quote=False)}</text>'

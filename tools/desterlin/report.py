@@ -1,30 +1,73 @@
-"""What gpkg-check prints: lines for people, or one JSON object for machines."""
+"""What gpkg-check prints: lines for people, or a JSON object for machines."""
 
 from __future__ import annotations
 
 import json
 import math
-from typing import Dict, Iterator, Optional
+from typing import Dict, Iterator, NamedTuple, Optional
 
 from .check import Judged
-from .console import CLEAN, FINDINGS, counted
+from .console import UNUSABLE, counted, plain
 from .listing import TABLES, Table, Value
+from .many import Outcome
 from .rules import RULES, Finding
-from .words import Known, words
+from .words import SIDES, Known, lengths, words
+
+# A matrix that is off by less than this share of its extent is no map in the wrong place.
+SLIGHT = 1e-9
 
 
-def text_lines(judged: Judged) -> Iterator[str]:
+class Wanted(NamedTuple):
+    """How a report is to be."""
+
+    is_json: bool
+    most: Optional[int]
+
+
+def verdict(judged: Judged) -> str:
+    """The whole in a few words."""
+    found = counted(len(judged.findings), "finding") if judged.findings else "no findings"
+    parts = counted(len(judged.not_judged), "part")
+    return f"{found}, and {parts} not judged" if judged.not_judged else found
+
+
+def pieces(judged: Judged, wanted: Wanted, trouble: Optional[str]) -> Iterator[str]:
+    """The report. The trouble, if there is any, is with what was to be made beside it."""
+    if wanted.is_json:
+        return json_pieces(judged, wanted, trouble)
+    return (plain(line) + "\n" for line in text_lines(judged, wanted))
+
+
+def pieces_of_trouble(outcome: Outcome, is_json: bool) -> Iterator[str]:
+    """The report on a pack that was not judged: for people, the complaints on standard error have all of it."""
+    if is_json:
+        trouble = "\n".join(outcome.complaints)
+        yield json.dumps({"path": outcome.path, "status": outcome.status, "trouble": trouble}) + "\n"
+
+
+def text_lines(judged: Judged, wanted: Wanted) -> Iterator[str]:
     known = Known(judged.listing)
-    yield f"{judged.path}: {counted(len(judged.findings), 'finding') if judged.findings else 'no findings'}"
+    yield f"{judged.path}: {verdict(judged)}"
     code = None
-    for finding in judged.findings:
+    for finding in judged.findings[:wanted.most]:
         if finding.code != code:
             code = finding.code
             yield ""
             yield f"{code}  {RULES[code].words} ({RULES[code].requirement})"
         yield f"     {place(judged, finding)}: {words(known, finding)}"
+    if left_out(judged, wanted):
+        yield ""
+        yield f"{counted(left_out(judged, wanted), 'finding')} more, which --most {wanted.most} leaves out here"
+    if judged.not_judged:
+        yield ""
+    for part in judged.not_judged:
+        yield f"not judged: {part}"
     yield ""
-    yield from summary_lines(judged)
+    yield from summary_lines(judged, known)
+
+
+def left_out(judged: Judged, wanted: Wanted) -> int:
+    return 0 if wanted.most is None else max(0, len(judged.findings) - wanted.most)
 
 
 def place(judged: Judged, finding: Finding) -> str:
@@ -43,7 +86,7 @@ def row_words(judged: Judged, table: Table, row: int) -> str:
     return f"row {row} ({origin})" if origin else f"row {row}"
 
 
-def summary_lines(judged: Judged) -> Iterator[str]:
+def summary_lines(judged: Judged, known: Known) -> Iterator[str]:
     counts = judged.listing.counts
     yield "judged: " + ", ".join(f"{table.title} {counts[table]:,}" for table in TABLES)
     tally = judged.tally()
@@ -51,28 +94,48 @@ def summary_lines(judged: Judged) -> Iterator[str]:
         yield f"{count:9,}  {code}  {RULES[code].words}"
     if tally:
         yield f"{len(judged.findings):9,}  in all; {counted(len(RULES) - len(tally), 'rule')} without findings"
+    of_sides = sum(tally.get(code, 0) for code in SIDES)
+    if of_sides:
+        those = f"of {counted(of_sides, 'finding')} of 451 and 452"
+        yield f"{slight(judged, known):9,}  {those} off by less than one part in 10^9 of the extent"
 
 
-def json_lines(judged: Judged) -> Iterator[str]:
-    """One object, a finding a line, so that a long report need not stand in memory twice."""
+def slight(judged: Judged, known: Known) -> int:
+    """How many findings of 451 and 452 tell of lengths that hardly differ."""
+    shares = (
+        lengths(known, finding.code, finding.row).share()
+        for finding in judged.findings
+        if finding.code in SIDES and finding.row is not None
+    )
+    return sum(share is not None and share < SLIGHT for share in shares)
+
+
+def json_pieces(judged: Judged, wanted: Wanted, trouble: Optional[str]) -> Iterator[str]:
+    """One object on one line; in pieces, so that a long report need not stand in memory twice."""
     known = Known(judged.listing)
     head = {
         "path": judged.path,
-        "status": FINDINGS if judged.findings else CLEAN,
+        "status": judged.status if trouble is None else UNUSABLE,
         "total": len(judged.findings),
+        "not_judged": judged.not_judged,
         "rows": {table.title: judged.listing.counts[table] for table in TABLES},
         "summary": [{"code": code, "rule": RULES[code].words, "count": n} for code, n in judged.tally().items()],
-        "notes": judged.notes,
+        "slight": slight(judged, known),
+        "left_out": left_out(judged, wanted),
+        **({} if trouble is None else {"trouble": trouble}),
     }
     yield json.dumps(head)[:-1] + ', "findings": ['
-    last = len(judged.findings) - 1
-    for at, finding in enumerate(judged.findings):
-        yield json.dumps(finding_object(judged, known, finding)) + ("," if at < last else "")
-    yield "]}"
+    for at, finding in enumerate(judged.findings[:wanted.most]):
+        yield ("" if at == 0 else ", ") + json.dumps(finding_object(judged, known, finding))
+    yield "]}\n"
 
 
 def finding_object(judged: Judged, known: Known, finding: Finding) -> Dict[str, object]:
     rule = RULES[finding.code]
+    off: Dict[str, object] = {}
+    if finding.code in SIDES and finding.row is not None:
+        compared = lengths(known, finding.code, finding.row)
+        off = {"off": compared.off(), "off_share": compared.share()}
     return {
         "code": finding.code,
         "rule": rule.words,
@@ -81,6 +144,7 @@ def finding_object(judged: Judged, known: Known, finding: Finding) -> Dict[str, 
         "row": finding.row,
         "partner": finding.partner,
         "words": words(known, finding),
+        **off,
         "found_at": row_object(judged, rule.table, finding.row),
         "partner_at": row_object(judged, rule.partner_table, finding.partner),
     }

@@ -2,6 +2,7 @@
 
 from __future__ import annotations
 
+import math
 import struct
 from typing import Callable, Dict, List, NamedTuple, Optional, Tuple
 
@@ -177,23 +178,57 @@ def pixel_sizes(row: Matrix, lower: Matrix) -> List[Tuple[str, float, float]]:
     return [("x", row.pixel_x_size, lower.pixel_x_size), ("y", row.pixel_y_size, lower.pixel_y_size)]
 
 
-def wrong_side(axis: str, side: str) -> Words:
+class Lengths(NamedTuple):
+    """What 451 and 452 compare: the extent of the matrix set and the length of the matrix, which is None where its
+    tiles and pixels make none."""
+
+    extent: float
+    product: Optional[float]
+
+    def off(self) -> Optional[float]:
+        """How far they are apart, in the map's units; None where that is no number."""
+        off = math.nan if self.product is None else abs(self.product - self.extent)
+        return off if math.isfinite(off) else None
+
+    def share(self) -> Optional[float]:
+        """The same as a share of the extent; None where there is no extent to have a share of."""
+        off = self.off()
+        share = off / self.extent if off is not None and is_positive(self.extent) else math.nan
+        return share if math.isfinite(share) else None
+
+
+# The axis and the side of the two codes.
+SIDES = {451: ("x", "width"), 452: ("y", "height")}
+
+
+def lengths(known: Known, code: int, row: int) -> Lengths:
+    axis, side = SIDES[code]
+    matrix = known.matrices[row]
+    extent = known.first_set[matrix.table_name]
+    tiles, pixels = getattr(matrix, f"matrix_{side}"), getattr(matrix, f"tile_{side}")
+    has_length = tiles >= 1 and pixels >= 1 and tiles * pixels <= LARGEST_EXACT
+    return Lengths(
+        getattr(extent, f"max_{axis}") - getattr(extent, f"min_{axis}"),
+        float(tiles * pixels) * getattr(matrix, f"pixel_{axis}_size") if has_length else None,
+    )
+
+
+def wrong_side(code: int) -> Words:
     """451 and 452: the two lengths that should be near, worked out."""
 
     def told(known: Known, found: Found) -> str:
+        axis, side = SIDES[code]
         row = known.matrices[found.row]
         extent = known.first_set[row.table_name]
         least, most = getattr(extent, f"min_{axis}"), getattr(extent, f"max_{axis}")
         tiles, pixels = getattr(row, f"matrix_{side}"), getattr(row, f"tile_{side}")
-        size = getattr(row, f"pixel_{axis}_size")
-        start = f"{level(row)}: max_{axis} {most!r} - min_{axis} {least!r} = {most - least!r}, but "
+        compared = lengths(known, code, found.row)
+        start = f"{level(row)}: max_{axis} {most!r} - min_{axis} {least!r} = {compared.extent!r}, but "
         names = f"matrix_{side} {tiles} * tile_{side} {pixels}"
-        if tiles < 1 or pixels < 1:
-            return f"{start}{names} is no {side}"
-        if tiles * pixels > LARGEST_EXACT:
-            return f"{start}{names} is above 2^53"
-        product = float(tiles * pixels) * size
-        return f"{start}{names} * pixel_{axis}_size {size!r} = {product!r}{distance(product, most - least)}"
+        if compared.product is None:
+            return f"{start}{names} is " + (f"no {side}" if tiles < 1 or pixels < 1 else "above 2^53")
+        size = getattr(row, f"pixel_{axis}_size")
+        return f"{start}{names} * pixel_{axis}_size {size!r} = {compared.product!r}{distance(compared)}"
 
     return told
 
@@ -289,10 +324,24 @@ def is_near(one: float, other: float) -> bool:
     return is_positive(one) and is_positive(other) and steps(one, other) <= NEAR_STEPS
 
 
-def distance(one: float, other: float) -> str:
-    if not (is_positive(one) and is_positive(other)):
-        return ""
-    return f"; that is {steps(one, other):,} steps off, and {NEAR_STEPS} are allowed"
+def distance(compared: Lengths) -> str:
+    """How far two lengths are apart: in steps, for the rule, and in numbers that a person can weigh."""
+    parts = []
+    if compared.product is not None and is_positive(compared.product) and is_positive(compared.extent):
+        parts.append(f"{steps(compared.product, compared.extent):,} steps off, and {NEAR_STEPS} are allowed")
+    off, share = compared.off(), compared.share()
+    if off is not None:
+        parts.append(f"{weighed(off)} in the map's units")
+    if share is not None:
+        parts.append(f"{weighed(share)} of the extent")
+    return f"; that is {'; '.join(parts)}" if parts else ""
+
+
+def weighed(number: float) -> str:
+    """Few digits: '0.5', '1,024', '1.14e-12'."""
+    if number != 0 and not 0.001 <= number < 1e9:
+        return f"{number:.3g}"
+    return f"{number:,.3f}".rstrip("0").rstrip(".")
 
 
 WITHOUT_A_ROW: Dict[int, Callable[[Known], str]] = {
@@ -320,8 +369,8 @@ WITH_A_ROW: Dict[int, Words] = {
     431: unlisted_matrix,
     432: repeated_matrix,
     441: unplaced_tile,
-    451: wrong_side("x", "width"),
-    452: wrong_side("y", "height"),
+    451: wrong_side(451),
+    452: wrong_side(452),
     461: below("zoom_level", 0),
     471: below("matrix_width", 1),
     481: below("matrix_height", 1),
