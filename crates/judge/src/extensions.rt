@@ -10,12 +10,12 @@ ghost use Rattle.rules.specs.Extensions.{of601, of621, of622, of641};
 ghost use Rattle.rules.specs.Codes.{tableOf, judged};
 use crate::judgments::fault_if;
 use crate::judgments::partner_of;
-use listing::EXTENSIONS;
-use listing::NAMES;
-use listing::TABLE_COUNT;
-use listing::slice_of;
 use octets::Text;
+use pack::EXTENSIONS;
 use pack::ExtensionRow;
+use pack::NAMES;
+use pack::TABLE_COUNT;
+use pack::slice_of;
 use rules::Judgment;
 use seek::ExtensionTest;
 

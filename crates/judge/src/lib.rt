@@ -4,11 +4,11 @@ ghost use mathlib.Core.List.{map};
 ghost use Rattle.pack.specs.Tables.{packIn};
 ghost use Rattle.rules.specs.Codes.{tableOf, judged, judgedNone};
 ghost use Rattle.judge.specs.Plans.{planOf, Prepared, PreparedMore};
-use listing::CONTENTS;
-use listing::NAMES;
-use listing::REFERENCES;
-use listing::TABLE_COUNT;
-use listing::slice_of;
+use pack::CONTENTS;
+use pack::NAMES;
+use pack::REFERENCES;
+use pack::TABLE_COUNT;
+use pack::slice_of;
 use rules::Judgment;
 
 mod contents;
@@ -23,6 +23,8 @@ mod tiles;
 use contents::judge_contents;
 use extensions::judge_extension;
 use matrices::judge_matrix;
+pub use plans::prepare;
+pub use plans::prepare_more;
 use references::MINUS_ONE;
 use references::judge_reference;
 use references::lacks_id;
@@ -41,9 +43,6 @@ pub enum Axis {
     X,
     Y,
 }
-
-pub use plans::prepare;
-pub use plans::prepare_more;
 
 // Which index a code goes by.
 pub enum Plan {

@@ -4,13 +4,13 @@ ghost use mathlib.Core.List.{map};
 ghost use Rattle.judge.specs.Plans.{planOf, Prepared, PreparedMore};
 use crate::Plan;
 use index::Kind;
-use listing::CONTENTS;
-use listing::MATRICES;
-use listing::NAMES;
-use listing::SETS;
-use listing::TABLE_COUNT;
-use listing::TILES;
-use listing::slice_of;
+use pack::CONTENTS;
+use pack::MATRICES;
+use pack::NAMES;
+use pack::SETS;
+use pack::TABLE_COUNT;
+use pack::TILES;
+use pack::slice_of;
 
 fn plan_of(code: u32) -> Plan
     ensures { λ r. ⌜ r ≡ planOf code ⌝ }

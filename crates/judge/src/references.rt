@@ -10,12 +10,12 @@ ghost use Rattle.rules.specs.Codes.{tableOf, judged};
 use crate::judgments::fault_if;
 use crate::judgments::partner_of;
 use crate::judgments::unless_found;
-use listing::NAMES;
-use listing::REFERENCES;
 use listing::ReferenceTable;
-use listing::TABLE_COUNT;
-use listing::slice_of;
+use pack::NAMES;
+use pack::REFERENCES;
 use pack::ReferenceRow;
+use pack::TABLE_COUNT;
+use pack::slice_of;
 use rules::Judgment;
 
 // The pattern of -1.

@@ -16,14 +16,14 @@ use crate::contents::unless_tiles_name;
 use crate::judgments::with_earlier;
 use crate::references::lacks_id;
 use index::Key;
-use listing::CONTENTS;
-use listing::NAMES;
-use listing::REFERENCES;
-use listing::SETS;
-use listing::TABLE_COUNT;
-use listing::slice_of;
 use octets::Name;
+use pack::CONTENTS;
+use pack::NAMES;
+use pack::REFERENCES;
+use pack::SETS;
 use pack::SetRow;
+use pack::TABLE_COUNT;
+use pack::slice_of;
 use rules::Judgment;
 
 // The first set row with the name, or the count.

@@ -6,7 +6,6 @@ ghost use Rattle.listing.specs.Listing.{count, offset};
 mod header;
 mod refusals;
 mod rows;
-mod tables;
 
 use header::count_of;
 pub use header::most_of;
@@ -17,16 +16,6 @@ pub use refusals::accept;
 pub use rows::first_bad_contents;
 pub use rows::first_bad_row;
 pub use rows::rows_of;
-pub use tables::CONTENTS;
-pub use tables::EXTENSIONS;
-pub use tables::MATRICES;
-pub use tables::NAMES;
-pub use tables::REFERENCES;
-pub use tables::SETS;
-pub use tables::TABLE_COUNT;
-pub use tables::TILES;
-pub use tables::cut;
-pub use tables::slice_of;
 
 // Each table knows the octets of its row and its most rows. What the header says of it: how many rows, and where.
 pub struct ReferenceTable {

@@ -12,11 +12,21 @@ use octets::Name;
 use octets::Text;
 
 mod blank;
-mod counts;
 mod read;
+mod tables;
 mod texts;
 
-pub use counts::rows_in;
+pub use tables::CONTENTS;
+pub use tables::EXTENSIONS;
+pub use tables::MATRICES;
+pub use tables::NAMES;
+pub use tables::REFERENCES;
+pub use tables::SETS;
+pub use tables::TABLE_COUNT;
+pub use tables::TILES;
+pub use tables::cut;
+pub use tables::rows_in;
+pub use tables::slice_of;
 pub use texts::same_text;
 pub use texts::text_octets;
 

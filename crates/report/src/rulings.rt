@@ -11,7 +11,7 @@ ghost use Rattle.report.specs.Promises.{VerdictOf};
 use crate::Tally;
 use crate::walk::add_code;
 use findings::Ruling;
-use listing::TABLE_COUNT;
+use pack::TABLE_COUNT;
 use rules::CODE_COUNT;
 use rules::NONE;
 
@@ -90,7 +90,7 @@ fn rule_listing(listing: &[u8], work: &mut [u8], code: u32, table: u32) -> Rulin
     requires { ⌜ table ≡ tableOf code ⌝ }
     ensures { λ r. ⌜ r ≡ ruled (packOf (now (listing .entry))) code ⌝ }
 {
-    rule(listing::cut(listing), work, code, table)
+    rule(pack::cut(listing), work, code, table)
 }
 
 // Pass, fail with the first row, not testable; or a refusal: 9 before the reader's.

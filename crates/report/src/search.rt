@@ -6,14 +6,14 @@ ghost use Rattle.octets.specs.Texts.{spell};
 ghost use Rattle.pack.specs.Tables.{contentsOf, tilesOf, packIn};
 ghost use Rattle.findings.specs.Answers.{canLook, tileAt, locatedRow, lookedUp, lookupOf};
 use findings::Located;
-use listing::CONTENTS;
 use listing::ContentsTable;
-use listing::NAMES;
-use listing::TABLE_COUNT;
-use listing::TILES;
 use listing::TileTable;
-use listing::slice_of;
 use octets::Name;
+use pack::CONTENTS;
+use pack::NAMES;
+use pack::TABLE_COUNT;
+use pack::TILES;
+use pack::slice_of;
 use seek::TileTest;
 
 fn located(k: usize, n: usize) -> Located
@@ -73,12 +73,6 @@ pub fn lookup(listing: &[u8], contents_row: usize, zoom: u64, column: u64, row: 
     let outcome = listing::accept(listing);
     match outcome {
         listing::Outcome::Refused { number, table, row } => Located::Refused { number, table, row },
-        listing::Outcome::Accepted(_) => look(
-            listing::cut(listing),
-            contents_row,
-            zoom,
-            column,
-            row,
-        ),
+        listing::Outcome::Accepted(_) => look(pack::cut(listing), contents_row, zoom, column, row),
     }
 }

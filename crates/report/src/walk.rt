@@ -18,10 +18,10 @@ use crate::Tally;
 use crate::buffer::add;
 use crate::buffer::least;
 use crate::tiles::add_541;
-use listing::NAMES;
-use listing::TABLE_COUNT;
-use listing::TILES;
-use listing::slice_of;
+use pack::NAMES;
+use pack::TABLE_COUNT;
+use pack::TILES;
+use pack::slice_of;
 use rules::CODE_COUNT;
 use rules::NONE;
 use survey::Survey;
@@ -211,5 +211,5 @@ pub fn add_listing(listing: &[u8], out: &mut [u8], work: &mut [u8]) -> Tally
     requires { ⌜ isAccepted (outcome (now listing)) ≡ true ⌝ }
     ensures { λ r. ⌜ Added (findings (packOf (now (listing .entry)))) (now (out .entry)) noTally (now (out .exit)) r ⌝ }
 {
-    add_all(listing::cut(listing), out, work)
+    add_all(pack::cut(listing), out, work)
 }

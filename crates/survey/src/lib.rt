@@ -9,14 +9,14 @@ ghost use Rattle.rules.specs.Tiles.{off561, off571};
 ghost use Rattle.survey.specs.Surveys.{seenAfter, stepAt, namedAt, levelAt, placedAt, Quiet, Surveyed, quietTile, quietMatrix, quietBy};
 use index::Kind;
 use judge::Axis;
-use listing::CONTENTS;
-use listing::MATRICES;
 use listing::MatrixTable;
-use listing::NAMES;
-use listing::TABLE_COUNT;
-use listing::TILES;
 use listing::TileTable;
-use listing::slice_of;
+use pack::CONTENTS;
+use pack::MATRICES;
+use pack::NAMES;
+use pack::TABLE_COUNT;
+use pack::TILES;
+use pack::slice_of;
 use rules::Judgment;
 
 // Whether a finding was seen, 0 for no: 351 but for its gates, 431, 441, 561, 571.

@@ -1,12 +1,12 @@
--- `pack::counts::rows_in` meets its contract.
+-- `pack::tables::rows_in` meets its contract.
 use mathlib.Core.List.{map}
 use denote.Ref.{now}
 use Rattle.pack.specs.Rows.{rowsIn}
 use Rattle.pack.specs.Tables.{packIn}
 use Rattle.pack.proofs.Laws.{rows-other}
 use borrow.Author.Needs.{needs}
-use Rattle.pack.proofs.counts.rows_in.Statement.{statement}
-use Rattle.pack.proofs.counts.rows_in.Tie as tie
+use Rattle.pack.proofs.tables.rows_in.Statement.{statement}
+use Rattle.pack.proofs.tables.rows_in.Tie as tie
 
 pub rows-in-spec : {M : Type 1} → statement M
 unfolding rowsIn

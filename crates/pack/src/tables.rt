@@ -3,8 +3,16 @@ ghost use mathlib.Core.Path.{_≡_};
 ghost use mathlib.Core.List.{map};
 ghost use Prim.Native.Nat.{_<_};
 ghost use Rattle.octets.specs.Slices.{nth};
 ghost use Rattle.listing.specs.Listing.{tablesOf};
-use crate::header::table_of;
+ghost use Rattle.pack.specs.Rows.{rowsIn};
+ghost use Rattle.pack.specs.Tables.{packIn};
+use listing::ContentsTable;
+use listing::ExtensionTable;
+use listing::MatrixTable;
+use listing::ReferenceTable;
+use listing::SetTable;
+use listing::TileTable;
+use listing::table_of;
 
 // The place of each table in the array.
 pub const REFERENCES: usize = 0;
@@ -45,4 +53,19 @@ pub fn slice_of<'a>(tables: [&'a [u8]; TABLE_COUNT], k: usize) -> &'a [u8]
     ensures { λ r. ⌜ now r ≡ nth (map now (tables .entry)) k ⌝ }
 {
     tables[k]
+}
+
+// How many rows the table with a number has; 0 where no table with rows has it.
+pub fn rows_in(tables: [&[u8]; TABLE_COUNT], table: u32) -> usize
+    ensures { λ r. ⌜ r ≡ rowsIn (packIn (map now (tables .entry))) table ⌝ }
+{
+    match table {
+        1 => slice_of(tables, REFERENCES).len() / (ReferenceTable::ROW as usize),
+        2 => slice_of(tables, CONTENTS).len() / (ContentsTable::ROW as usize),
+        3 => slice_of(tables, SETS).len() / (SetTable::ROW as usize),
+        4 => slice_of(tables, MATRICES).len() / (MatrixTable::ROW as usize),
+        5 => slice_of(tables, TILES).len() / (TileTable::ROW as usize),
+        6 => slice_of(tables, EXTENSIONS).len() / (ExtensionTable::ROW as usize),
+        _ => 0,
+    }
 }
