@@ -117,11 +117,14 @@ pub fn equal(a: &[u8], b: &[u8]) -> bool
     equal_from(a, b, i)
 }
 
+// What stands in the place of the start of a NULL text.
+const NULL_START: u32 = 4294967295;
+
 // The one place where a text is made of its two numbers.
 pub fn text_of(start: u32, len: u32) -> Text
     ensures { λ r. ⌜ r ≡ textOf start len ⌝ }
 {
-    if start == 4294967295 {
+    if start == NULL_START {
         if len == 0 {
             return Text::Null;
         }

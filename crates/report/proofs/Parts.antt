@@ -8,32 +8,32 @@ use lib.ListN.{length, take, drop, length-append, length-drop, drop-of-length-le
 use lib.Seq.{length-take-le, take-all, take-at, drop-at}
 use borrow.Rule.Slice.PartMut.{midOf, postOf, putMid}
 
--- what lies from half on, taken to the end
-pub tail-whole : (half : ℕ) (xs : List ℕ) → take (length xs - half) (drop half xs) ≡ drop half xs
-tail-whole half xs = take-all (length xs - half) (drop half xs) (rw (length-drop half xs) (omega arith))
+-- what lies from split on, taken to the end
+pub tail-whole : (split : ℕ) (xs : List ℕ) → take (length xs - split) (drop split xs) ≡ drop split xs
+tail-whole split xs = take-all (length xs - split) (drop split xs) (rw (length-drop split xs) (omega arith))
 
-module _ (half : ℕ) (xs P M : List ℕ) (l : half ≤ length xs) (e : length P ≡ length (midOf 0 (half - 0) xs)) where
+module _ (split : ℕ) (xs P M : List ℕ) (l : split ≤ length xs) (e : length P ≡ length (midOf 0 (split - 0) xs)) where
   -- once the first is back, and once the second is
   abbrev pub once : List ℕ
-  once = P ++ postOf 0 (half - 0) xs
+  once = P ++ postOf 0 (split - 0) xs
 
   abbrev pub twice : List ℕ
-  twice = putMid half (length once - half) once M
+  twice = putMid split (length once - split) once M
 
-  size : length P ≡ half
-  size = e ∙ simp unary-clauses (length-take-le half xs l)
+  size : length P ≡ split
+  size = e ∙ simp unary-clauses (length-take-le split xs l)
 
   whole : twice ≡ P ++ M
   whole =
-      ap (λ (a : List ℕ). a ++ (M ++ postOf half (length once - half) once)) (take-at P (postOf 0 (half - 0) xs) half size)
-      ∙ ap (λ (z : List ℕ). P ++ (M ++ z)) (drop-of-length-le (drop half once) {i = length once - half} (rw (length-drop half once) (omega arith)))
+      ap (λ (a : List ℕ). a ++ (M ++ postOf split (length once - split) once)) (take-at P (postOf 0 (split - 0) xs) split size)
+      ∙ ap (λ (z : List ℕ). P ++ (M ++ z)) (drop-of-length-le (drop split once) {i = length once - split} (rw (length-drop split once) (omega arith)))
       ∙ ap (λ (z : List ℕ). P ++ z) (append-nil M)
 
-  pub parts-within : half ≤ length twice
+  pub parts-within : split ≤ length twice
   parts-within = rw whole (simp length-append (omega (arith, size)))
 
-  pub parts-first : (F : List ℕ → Type 0) → F P → F (take half twice)
-  parts-first F x = subst F (sym (ap (take half) whole ∙ take-at P M half size)) x
+  pub parts-first : (F : List ℕ → Type 0) → F P → F (take split twice)
+  parts-first F x = subst F (sym (ap (take split) whole ∙ take-at P M split size)) x
 
-  pub parts-second : (F : List ℕ → Type 0) → F M → F (drop half twice)
-  parts-second F x = subst F (sym (ap (drop half) whole ∙ drop-at P M half size)) x
+  pub parts-second : (F : List ℕ → Type 0) → F M → F (drop split twice)
+  parts-second F x = subst F (sym (ap (drop split) whole ∙ drop-at P M split size)) x
