@@ -85,13 +85,17 @@ module _ (s : List ℕ) (k : ℕ) (z c r : ℤ) where
   abbrev pub here : ℕ → Bool
   here j = atAddress (packOf s .contents .row k .name) z c r (packOf s .tiles .row j)
 
-  lookup-turned : (n t q : ℕ) → outcome s ≡ reading.Refused n t q → lookupOf s k z c r ≡ Refused n t q
+  pub lookup-turned : (n t q : ℕ) → outcome s ≡ reading.Refused n t q → lookupOf s k z c r ≡ Refused n t q
   unfolding lookupOf
   lookup-turned n t q o = rw o
 
+  pub lookup-judged : isAccepted (outcome s) ≡ true → lookupOf s k z c r ≡ lookedUp (packOf s) k z c r
+  unfolding lookupOf
+  lookup-judged a = rw (accepted-is s a)
+
   lookup-accepted : isAccepted (outcome s) ≡ true → lookupOf s k z c r ≡ cond (canLook cs k) (tileAt ts (cs .row k .name) z c r) (Refused 10 0 0)
-  unfolding lookupOf lookedUp
-  lookup-accepted a = rw (accepted-is s a)
+  unfolding lookedUp
+  lookup-accepted a = lookup-judged a
 
   -- what holds of the reader's refusals, of 10 and of a search holds of every lookup
   pub lookup-cases : (P : Located → Type 0) → ((n t q : ℕ) → outcome s ≡ reading.Refused n t q → P (Refused n t q)) → (isAccepted (outcome s) ≡ true → canLook cs k ≡ false → P (Refused 10 0 0))

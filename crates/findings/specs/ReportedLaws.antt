@@ -17,7 +17,7 @@ use Rattle.pack.specs.Tables.{packOf}
 use Rattle.pack.specs.PackLaws.{rows-numbered}
 use Rattle.rules.specs.Judgments.{none}
 use Rattle.rules.specs.Codes.{tables, codeCount, codeAt, tableAt, tableOf, judged, judgedNone}
-use Rattle.rules.specs.CodeLaws.{place-table}
+use Rattle.rules.specs.CodeLaws.{place-table, listed-place}
 use Rattle.rules.specs.declared.Judgment.{Judgment}
 use Rattle.rules.specs.declared.Judgment.the-variants.{Hit}
 use Rattle.findings.specs.Findings.{Finding, found, atRow, atNone, ofCode, ofPlace, findings, Ordered}
@@ -25,7 +25,6 @@ use Rattle.findings.specs.Answers.{findingsBy, reported}
 use Rattle.findings.specs.Demands.{Stands, Once, Listed, Due, Asked}
 use Rattle.findings.specs.OrderLaws.{findings-ordered}
 use Rattle.findings.specs.StandsLaws.{stands-left, stands-right, stands-either, stands-gathered, stands-some, ordered-once}
-use Rattle.findings.specs.VerdictLaws.{listed-place}
 
 -- ---- a judgment's finding stands in the list that it gives, and no other
 found-stands : (f : Finding) (v : Judgment) → v ≡ Hit (f .partner) → Stands f (found (f .code) (f .row) v)

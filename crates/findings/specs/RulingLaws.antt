@@ -132,11 +132,11 @@ module _ (p : Pack) (c : ℕ) (listed : Listed c) (ordered : Ordered (findings p
 
 -- ---- the verdict of an octet string
 module _ (s : List ℕ) (c : ℕ) where
-  verdict-unlisted : tableOf c ≡ 0 → verdictOf s c ≡ Refused 9 0 0
+  pub verdict-unlisted : tableOf c ≡ 0 → verdictOf s c ≡ Refused 9 0 0
   unfolding verdictOf
   verdict-unlisted z = rw (eq-eqb (tableOf c) 0 z)
 
-  verdict-turned : (n t r : ℕ) → Listed c → outcome s ≡ reading.Refused n t r → verdictOf s c ≡ Refused n t r
+  pub verdict-turned : (n t r : ℕ) → Listed c → outcome s ≡ reading.Refused n t r → verdictOf s c ≡ Refused n t r
   unfolding verdictOf
   verdict-turned n t r l o = rw (ne-eqb (tableOf c) 0 l, o)
 

@@ -8,40 +8,13 @@ use lib.Dec.{eqb}
 use lib.ListN.{getD, length, drop}
 use borrow.Author.Tests.{eqb-true}
 use Rattle.pack.specs.Rows.{Pack, rowsIn}
-use Rattle.rules.specs.Codes.{codes, tables, codeAt, tableAt, seek, tableOf}
+use Rattle.rules.specs.Codes.{codes, tables, codeAt, tableAt, tableOf}
+use Rattle.rules.specs.CodeLaws.{Place, listed-place}
 use Rattle.findings.specs.Findings.{Finding, ofCode, ofPlace, findings, only}
 use Rattle.findings.specs.FindingLaws.{only-place}
 use Rattle.findings.specs.Answers.{failOr, alwaysTestable, withoutFinding, ruled}
 use Rattle.findings.specs.declared.Ruling.{Ruling}
 use Rattle.findings.specs.declared.Ruling.the-variants.{Pass, Fail, NotTestable, Refused}
-
--- ---- a code that belongs to a table has a place among the 36
-pub record Place (ks ts : List ℕ) (c t : ℕ) : Type 0 where
-  pub place : ℕ
-  pub within : place < length ks
-  pub code : getD ks place 0 ≡ c
-  pub table : getD ts place 0 ≡ t
-
-tail : (ks ts : List ℕ) (k c t : ℕ) → Place ks (drop 1 ts) c t → Place (k ∷ ks) ts c t
-tail ks [] k c t h = record { place = suc (h .place); within = omega (arith, h .within); code = h .code; table = h .table }
-tail ks (u ∷ ts) k c t h = record { place = suc (h .place); within = omega (arith, h .within); code = h .code; table = h .table }
-
-head : (ks ts : List ℕ) (k c t : ℕ) → c ≡ k → getD ts 0 0 ≡ t → Place (k ∷ ks) ts c t
-head ks [] k c t e f = record { place = 0; within = omega arith; code = sym e; table = f }
-head ks (u ∷ ts) k c t e f = record { place = 0; within = omega arith; code = sym e; table = f }
-
-mutual-step : (ks ts : List ℕ) (k c t : ℕ) (b : Bool) → eqb c k ≡ b → (t ≡ 0 → ⊥) → cond b (getD ts 0 0) (seek ks (drop 1 ts) c) ≡ t
-    → ((t ≡ 0 → ⊥) → seek ks (drop 1 ts) c ≡ t → Place ks (drop 1 ts) c t) → Place (k ∷ ks) ts c t
-mutual-step ks ts k c t true e n q h = head ks ts k c t (eqb-true c k e) q
-mutual-step ks ts k c t false e n q h = tail ks ts k c t (h n q)
-
-placed : (ks ts : List ℕ) (c t : ℕ) → (t ≡ 0 → ⊥) → seek ks ts c ≡ t → Place ks ts c t
-placed [] ts c t n q = absurd (n (sym q))
-placed (k ∷ ks) ts c t n q = mutual-step ks ts k c t (eqb c k) refl n q (λ n′ q′. placed ks (drop 1 ts) c t n′ q′)
-
-pub listed-place : (c : ℕ) → (tableOf c ≡ 0 → ⊥) → Place codes tables c (tableOf c)
-unfolding tableOf
-listed-place c n = placed codes tables c (seek codes tables c) n refl
 
 -- the findings of a listed code are those of the full list that have the code
 pub only-code : (p : Pack) (c : ℕ) → (tableOf c ≡ 0 → ⊥) → only c (findings p) ≡ ofCode p c (tableOf c)

@@ -7,8 +7,8 @@ use native.Mathlib.Omega.{arith}
 use borrow.Author.Tests.{ne-eqb, ltb-true}
 use lib.Dec.{eqb, ltb}
 use Rattle.pack.specs.Rows.{Pack}
-use Rattle.rules.specs.Codes.{codes, tables, tableOf, judged, judgedNone}
-use Rattle.rules.specs.CodeLaws.{Other, among, none-among, covers, not-of-table}
+use Rattle.rules.specs.Codes.{tableOf, judged, judgedNone}
+use Rattle.rules.specs.CodeLaws.{Other, among, none-among, Covers, not-of-table}
 use Rattle.rules.specs.declared.Judgment.the-variants.{Clean}
 use Rattle.judge.specs.declared.Plan.the-variants.{Plain}
 use Rattle.judge.specs.Plans.{planOf}
@@ -23,8 +23,8 @@ past code [] f v u r e = e
 past code (c ∷ cs) f v u r e = past code cs f v (cond (eqb code c) (f c) u) (r .0) (simp (ne-eqb code c (r .1)) e)
 
 -- ---- the judge of a table: a code of the table is one of its arms
-pub no-arm : (t code : ℕ) (cs : List ℕ) → ltb 0 t ≡ true → covers t cs codes tables ≡ true → tableOf code ≡ t → Other code cs → ⊥
-no-arm t code cs n v e o = not-of-table t code (λ z. omega (arith, ltb-true 0 t n)) cs o v e
+pub no-arm : (t code : ℕ) (cs : List ℕ) → ltb 0 t ≡ true → Covers t cs → tableOf code ≡ t → Other code cs → ⊥
+no-arm t code cs n v e o = not-of-table t code cs (λ z. omega (arith, ltb-true 0 t n)) v e o
 
 abbrev pub referenceCodes : List ℕ
 referenceCodes = 113 ∷ 112 ∷ 111 ∷ 101 ∷ []

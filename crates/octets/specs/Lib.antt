@@ -10,3 +10,4 @@ pub mod Texts
 pub mod TextLaws
 pub mod TableLaws
 pub mod Slices
+pub mod SliceLaws

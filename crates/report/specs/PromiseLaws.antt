@@ -5,8 +5,6 @@ use mathlib.Core.Bool.{Bool, true, false, cond, true≢false}
 use mathlib.Core.List.{List, [], _∷_, _++_}
 use native.Mathlib.Nat.{zero-add}
 use native.Mathlib.Omega.{arith}
-use borrow.Author.Tests.{eq-eqb, ne-eqb}
-use lib.Dec.{eqb}
 use lib.ListN.{length}
 use Rattle.listing.specs.Refusals.{outcome, numberOf, tableOf, rowOf, isAccepted}
 use Rattle.listing.specs.declared.Layout.{Layout}
@@ -20,7 +18,8 @@ use Rattle.rules.specs.Codes.{tableOf as tableOfCode}
 use Rattle.rules.specs.Judgments.{none}
 use Rattle.findings.specs.Findings.{Finding, ofCode, findings}
 use Rattle.findings.specs.Answers.{reported, failOr, withoutFinding, ruled, verdictOf, isRefused}
-use Rattle.findings.specs.RulingLaws.{kind, ruled-kind}
+use Rattle.findings.specs.RulingLaws.{kind, ruled-kind, verdict-unlisted as unlisted, verdict-turned, verdict-judged}
+use Rattle.findings.specs.WordLaws.{buffer-none}
 use Rattle.findings.specs.OrderLaws.{Numbered}
 use Rattle.findings.specs.Words.{findingOctets, room, writtenOf, bufferOf}
 use Rattle.findings.specs.declared.Ruling.{Ruling}
@@ -37,16 +36,13 @@ none-written : (b : List ℕ) → 0 ≡ writtenOf [] b
 unfolding writtenOf
 none-written b = omega arith
 
-none-put : (b : List ℕ) → b ≡ bufferOf [] b
-none-put b = put-all [] b
-
 -- a listing that is turned away
 pub report-refused : (s b w : List ℕ) (o : Outcome) (n t r : ℕ) → o ≡ outcome s → o ≡ Refused n t r
     → ReportOf s b w (record { number = n; table = t; row = r; total = 0; written = 0 }) b w
 unfolding reported
 report-refused s b w o n t r e f =
     let q : outcome s ≡ Refused n t r = sym e ∙ f in
-    record { number = rw q; table = rw q; row = rw q; total = rw q; written = rw q (none-written b); buffer = rw q (none-put b); kept = λ _. refl }
+    record { number = rw q; table = rw q; row = rw q; total = rw q; written = rw q (none-written b); buffer = rw q (sym (buffer-none b)); kept = λ _. refl }
 
 -- one that is judged
 pub report-done : (s b w : List ℕ) (o : Outcome) (l : Layout) (p : Pack) (b′ w′ : List ℕ) (t : Tally) (n : ℕ) → o ≡ outcome s → o ≡ Accepted l → p ≡ packOf s
@@ -130,18 +126,15 @@ ruled-stands p c = by (ruled p c) (ruled-kind p c)
 
 module _ (s : List ℕ) (c t : ℕ) (w : List ℕ) (e : t ≡ tableOfCode c) where
   pub verdict-unlisted : t ≡ 0 → VerdictOf s c w (ruling.Refused 9 0 0) w
-  unfolding verdictOf
-  verdict-unlisted z = record { ruling = rw (eq-eqb (tableOfCode c) 0 (sym e ∙ z)); kept = λ _. refl }
+  verdict-unlisted z = record { ruling = sym (unlisted s c (sym e ∙ z)); kept = λ _. refl }
 
   module _ (n : t ≡ 0 → ⊥) (o : Outcome) (f : o ≡ outcome s) where
     pub verdict-refused : (m u r : ℕ) → o ≡ Refused m u r → VerdictOf s c w (ruling.Refused m u r) w
-    unfolding verdictOf
-    verdict-refused m u r g = record { ruling = rw (ne-eqb (tableOfCode c) 0 (λ z. n (e ∙ z)), sym f ∙ g); kept = λ _. refl }
+    verdict-refused m u r g = record { ruling = sym (verdict-turned s c m u r (λ z. n (e ∙ z)) (sym f ∙ g)); kept = λ _. refl }
 
     pub verdict-done : (l : Layout) (v : Ruling) (w′ : List ℕ) → o ≡ Accepted l → v ≡ ruled (packOf s) c → VerdictOf s c w v w′
-    unfolding verdictOf
     verdict-done l v w′ g q =
-        let is : v ≡ verdictOf s c = rw (ne-eqb (tableOfCode c) 0 (λ z. n (e ∙ z)), sym f ∙ g) q in
+        let is : v ≡ verdictOf s c = q ∙ sym (verdict-judged s c (λ z. n (e ∙ z)) (ap isAccepted (sym f ∙ g))) in
         record { ruling = is; kept = λ z. absurd (true≢false (sym z ∙ ap isRefused (sym is ∙ q) ∙ ruled-stands (packOf s) c)) }
 
 -- two answers that keep the promise are the same

@@ -1,21 +1,50 @@
 -- The table of a code: at each place of the constant table, and of a code that is none of some.
-use Prim.Native.Nat.{ℕ, _<_}
+use Prim.Native.Nat.{ℕ, zero, suc, _<_}
 use mathlib.Core.Path.{_≡_, refl, sym, ap, _∙_}
-use mathlib.Core.Bool.{Bool, true, false, cond, _&&_, _||_, false≢true, and-eq-true-iff}
+use mathlib.Core.Bool.{Bool, true, false, cond, _||_, false≢true}
 use mathlib.Core.List.{List, [], _∷_}
+use native.Mathlib.Omega.{arith}
 use borrow.Author.Tests.{eq-eqb, eqb-true}
-use lib.Dec.{eqb, eqb→eq}
-use lib.ListN.{getD, drop}
-use Rattle.octets.specs.TableLaws.{at}
+use lib.Dec.{T, eqb, eqb→eq}
+use lib.ListN.{length, getD, drop}
+use Rattle.octets.specs.TableLaws.{every, at}
 use Rattle.rules.specs.Codes.{codes, tables, codeCount, codeAt, tableAt, seek, tableOf}
 
 -- ---- the code at a place has the table at that place, by one computed test
-placed : ℕ → ℕ → Bool
-placed k c = eqb (tableOf c) (tableAt k)
+agrees : ℕ → ℕ → Bool
+agrees k c = eqb (tableOf c) (tableAt k)
 
 pub place-table : (k : ℕ) → k < codeCount → tableOf (codeAt k) ≡ tableAt k
-unfolding placed tableOf tableAt codeAt
-place-table k l = eqb→eq _ _ (at placed codes tt k l)
+unfolding agrees tableOf tableAt codeAt
+place-table k l = eqb→eq _ _ (at agrees codes tt k l)
+
+-- ---- a code that belongs to a table has a place among the 36
+pub record Place (ks ts : List ℕ) (c t : ℕ) : Type 0 where
+  pub place : ℕ
+  pub within : place < length ks
+  pub code : getD ks place 0 ≡ c
+  pub table : getD ts place 0 ≡ t
+
+tail : (ks ts : List ℕ) (k c t : ℕ) → Place ks (drop 1 ts) c t → Place (k ∷ ks) ts c t
+tail ks [] k c t h = record { place = suc (h .place); within = omega (arith, h .within); code = h .code; table = h .table }
+tail ks (u ∷ ts) k c t h = record { place = suc (h .place); within = omega (arith, h .within); code = h .code; table = h .table }
+
+head : (ks ts : List ℕ) (k c t : ℕ) → c ≡ k → getD ts 0 0 ≡ t → Place (k ∷ ks) ts c t
+head ks [] k c t e f = record { place = 0; within = omega arith; code = sym e; table = f }
+head ks (u ∷ ts) k c t e f = record { place = 0; within = omega arith; code = sym e; table = f }
+
+mutual-step : (ks ts : List ℕ) (k c t : ℕ) (b : Bool) → eqb c k ≡ b → (t ≡ 0 → ⊥) → cond b (getD ts 0 0) (seek ks (drop 1 ts) c) ≡ t
+    → ((t ≡ 0 → ⊥) → seek ks (drop 1 ts) c ≡ t → Place ks (drop 1 ts) c t) → Place (k ∷ ks) ts c t
+mutual-step ks ts k c t true e n q h = head ks ts k c t (eqb-true c k e) q
+mutual-step ks ts k c t false e n q h = tail ks ts k c t (h n q)
+
+placed : (ks ts : List ℕ) (c t : ℕ) → (t ≡ 0 → ⊥) → seek ks ts c ≡ t → Place ks ts c t
+placed [] ts c t n q = absurd (n (sym q))
+placed (k ∷ ks) ts c t n q = mutual-step ks ts k c t (eqb c k) refl n q (λ n′ q′. placed ks (drop 1 ts) c t n′ q′)
+
+pub listed-place : (c : ℕ) → (tableOf c ≡ 0 → ⊥) → Place codes tables c (tableOf c)
+unfolding tableOf
+listed-place c n = placed codes tables c (seek codes tables c) n refl
 
 -- ---- a code that is none of those of a table belongs to another
 -- it is none of them, the last one first: the last arm of a match on them
@@ -27,11 +56,6 @@ abbrev pub among : ℕ → List ℕ → Bool
 among code [] = false
 among code (c ∷ cs) = eqb code c || among code cs
 
--- every code of table t is among cs
-abbrev pub covers : ℕ → List ℕ → List ℕ → List ℕ → Bool
-covers t cs [] ts = true
-covers t cs (k ∷ ks) ts = cond (eqb (getD ts 0 0) t) (among k cs) true && covers t cs ks (drop 1 ts)
-
 pub none-among : (code : ℕ) (cs : List ℕ) → Other code cs → among code cs ≡ true → ⊥
 none-among code [] o e = false≢true e
 none-among code (c ∷ cs) o e = by (eqb code c) refl e (none-among code cs (o .0))
@@ -40,18 +64,19 @@ none-among code (c ∷ cs) o e = by (eqb code c) refl e (none-among code cs (o .
     by true f g h = o .1 (eqb-true code c f)
     by false f g h = h g
 
-module _ (t code : ℕ) (n : t ≡ 0 → ⊥) (cs : List ℕ) (o : Other code cs) where
-  elsewhere : (ks ts : List ℕ) → covers t cs ks ts ≡ true → seek ks ts code ≡ t → ⊥
-  elsewhere [] ts v e = n (sym e)
-  elsewhere (k ∷ ks) ts v e =
-      let h = and-eq-true-iff (cond (eqb (getD ts 0 0) t) (among k cs) true) (covers t cs ks (drop 1 ts)) .0 v in
-      by (eqb code k) refl (h .0) e (elsewhere ks (drop 1 ts) (h .1))
-    where
-      by : (b : Bool) → eqb code k ≡ b → cond (eqb (getD ts 0 0) t) (among k cs) true ≡ true → cond b (getD ts 0 0) (seek ks (drop 1 ts) code) ≡ t
-          → (seek ks (drop 1 ts) code ≡ t → ⊥) → ⊥
-      by true f a g w = none-among code cs o (ap (λ (x : ℕ). among x cs) (eqb-true code k f) ∙ (simp (eq-eqb (getD ts 0 0) t g) at a))
-      by false f a g w = w g
+-- every code of table t is among cs: one computed test of the places
+abbrev pub covered : ℕ → List ℕ → ℕ → ℕ → Bool
+covered t cs k c = cond (eqb (getD tables k 0) t) (among c cs) true
 
-  pub not-of-table : covers t cs codes tables ≡ true → tableOf code ≡ t → ⊥
-  unfolding tableOf
-  not-of-table v e = elsewhere codes tables v e
+abbrev pub Covers : ℕ → List ℕ → Type 0
+Covers t cs = T (every (covered t cs) 0 codes)
+
+told : (b : Bool) → T b → b ≡ true
+told true t = refl
+told false t = absurd t
+
+pub not-of-table : (t code : ℕ) (cs : List ℕ) → (t ≡ 0 → ⊥) → Covers t cs → tableOf code ≡ t → Other code cs → ⊥
+not-of-table t code cs n v e o =
+    let h = listed-place code (λ z. n (sym e ∙ z)) in
+    let here : among (getD codes (h .place) 0) cs ≡ true = told _ (rw (eq-eqb (getD tables (h .place) 0) t (h .table ∙ e)) at (at (covered t cs) codes v (h .place) (h .within))) in
+    none-among code cs o (ap (λ (x : ℕ). among x cs) (sym (h .code)) ∙ here)

@@ -28,4 +28,4 @@ judge-contents-spec =
     (λ c. let r = c .before .before .before in simp (c .before .before .match .keys4, ← c .before .slice-of4 .ensures, ← r .contents-at .ensures, ← r .before .slice-of2 .ensures, ← r .before .before .slice-of .ensures) (c .of-162 .ensures))
     (λ c. rw (c .match .keys5))
     (λ c. let r = c .before .before .before in simp (c .before .before .match .keys6, ← c .before .slice-of5 .ensures, ← r .contents-at .ensures, ← r .before .slice-of2 .ensures, ← r .before .before .slice-of .ensures) (c .of-401 .ensures))
-    (λ c. absurd (no-arm 2 _ contentsCodes refl refl (c .before .before .before .before .before .pre .0) (c .match .rest))))
+    (λ c. absurd (no-arm 2 _ contentsCodes refl tt (c .before .before .before .before .before .pre .0) (c .match .rest))))

@@ -21,4 +21,4 @@ judge-extension-spec =
     (λ c. let r = c .before .before in simp (c .before .match .keys2, ← r .extension-at .ensures, ← r .before .slice-of2 .ensures, ← r .before .before .slice-of .ensures) (c .of-621 .ensures))
     (λ c. let r = c .before .before in simp (c .before .match .keys3, ← r .extension-at .ensures, ← r .before .slice-of2 .ensures, ← r .before .before .slice-of .ensures) (c .of-622 .ensures))
     (λ c. let r = c .before .before in simp (c .before .match .keys4, ← r .extension-at .ensures, ← r .before .slice-of2 .ensures, ← r .before .before .slice-of .ensures) (c .of-641 .ensures))
-    (λ c. absurd (no-arm 6 _ extensionCodes refl refl (c .before .before .before .before .pre) (c .match .rest))))
+    (λ c. absurd (no-arm 6 _ extensionCodes refl tt (c .before .before .before .before .pre) (c .match .rest))))

@@ -46,4 +46,4 @@ judge-matrix-spec =
     (λ c. let r = c .before .before in simp (c .before .match .keys11, ← r .matrix-at .ensures, ← r .before .before .slice-of2 .ensures) (c .unless-positive .ensures))
     (λ c. let r = c .before .before in simp (c .before .match .keys12, ← r .matrix-at .ensures, ← r .before .before .slice-of2 .ensures) (c .unless-positive2 .ensures))
     (λ c. let r = c .before .before in simp (c .before .match .keys13, ← r .matrix-at .ensures, ← r .before .slice-of3 .ensures, ← r .before .before .slice-of2 .ensures) (c .of-531 .ensures))
-    (λ c. absurd (no-arm 4 _ matrixCodes refl refl (c .before .before .before .before .before .before .before .pre .0) (c .match .rest))))
+    (λ c. absurd (no-arm 4 _ matrixCodes refl tt (c .before .before .before .before .before .before .before .pre .0) (c .match .rest))))

@@ -22,4 +22,4 @@ judge-reference-spec =
     (λ c. let r = c .before .before in simp (c .before .match .keys2, ← r .reference-at .ensures, ← r .before .slice-of2 .ensures, ← r .before .before .slice-of .ensures) (c .of-111 .ensures))
     (λ c. let r = c .before .before in simp (c .before .match .keys3, ← r .reference-at .ensures, ← r .before .slice-of2 .ensures, ← r .before .before .slice-of .ensures) (c .of-undefined .ensures))
     (λ c. let r = c .before .before in simp (c .before .match .keys4, ← r .reference-at .ensures, ← r .before .slice-of2 .ensures, ← r .before .before .slice-of .ensures) (c .of-undefined2 .ensures))
-    (λ c. absurd (no-arm 1 _ referenceCodes refl refl (c .before .before .before .before .pre) (c .match .rest))))
+    (λ c. absurd (no-arm 1 _ referenceCodes refl tt (c .before .before .before .before .pre) (c .match .rest))))

@@ -25,4 +25,4 @@ judge-set-spec =
     (λ c. let r = c .before .before .before in simp (c .before .before .match .keys1, ← c .before .slice-of3 .ensures, ← r .set-at .ensures, ← r .before .slice-of2 .ensures, ← r .before .before .slice-of .ensures) (c .unless-tiles-name .ensures))
     (λ c. let r = c .before .before in simp (c .before .match .keys2, ← r .set-at .ensures, ← r .before .slice-of2 .ensures, ← r .before .before .slice-of .ensures) (c .of-392 .ensures))
     (λ c. let r = c .before .before .before in simp (c .before .before .match .keys3, ← c .before .slice-of4 .ensures, ← r .set-at .ensures, ← r .before .slice-of2 .ensures, ← r .before .before .slice-of .ensures) (c .lacks-id .ensures))
-    (λ c. absurd (no-arm 3 _ setCodes refl refl (c .before .before .before .before .before .pre .0) (c .match .rest))))
+    (λ c. absurd (no-arm 3 _ setCodes refl tt (c .before .before .before .before .before .pre .0) (c .match .rest))))

@@ -30,4 +30,4 @@ judge-tile-spec =
     (λ c. let r = c .before .before in simp (c .before .match .keys4, ← r .tile-at .ensures, ← r .before .slice-of3 .ensures, ← r .before .before .slice-of2 .ensures, ← r .before .before .before .slice-of .ensures) (c .of-551 .ensures))
     (λ c. let r = c .before .before in simp (c .before .match .keys5, ← r .tile-at .ensures, ← r .before .slice-of3 .ensures, ← r .before .before .slice-of2 .ensures, ← r .before .before .before .slice-of .ensures) (c .of-placed .ensures))
     (λ c. let r = c .before .before in simp (c .before .match .keys6, ← r .tile-at .ensures, ← r .before .slice-of3 .ensures, ← r .before .before .slice-of2 .ensures, ← r .before .before .before .slice-of .ensures) (c .of-placed2 .ensures))
-    (λ c. absurd (no-arm 5 _ tileCodes refl refl (c .before .before .before .before .before .before .before .pre .0) (c .match .rest))))
+    (λ c. absurd (no-arm 5 _ tileCodes refl tt (c .before .before .before .before .before .before .before .pre .0) (c .match .rest))))

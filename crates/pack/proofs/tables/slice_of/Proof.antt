@@ -1,7 +1,8 @@
 -- `pack::tables::slice_of` meets its contract.
 use mathlib.Core.Path.{sym}
 use denote.Ref.{now}
-use Rattle.octets.specs.Slices.{nth, behind}
+use Rattle.octets.specs.Slices.{nth}
+use Rattle.octets.specs.SliceLaws.{behind}
 use borrow.Author.Needs.{needs}
 use Rattle.pack.proofs.tables.slice_of.Statement.{statement}
 use Rattle.pack.proofs.tables.slice_of.Tie as tie
