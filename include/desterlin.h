@@ -1,11 +1,11 @@
 /*
- * Desterlin for a C program: report, verdict and lookup on one listing.
+ * Desterlin for a C program: report, verdict and lookup on one listing, and a writer of listings.
  *
  * A listing is the rows of a GeoPackage 1.2.1 as one string of octets; docs/LISTING.md has its layout, docs/RULES.md
  * what each code means. Link with target/staticlib/libdesterlin.a, which `rt staticlib desterlin` proves and writes: it
  * is x86-64 code. README.md says how a library for another machine is made, and what has to be assumed for it.
  *
- * What holds for all three calls:
+ * What holds for all four calls:
  *
  * - A buffer is a pointer and its number of octets. It needs no alignment. The buffers of one call do not overlap.
  *   An empty buffer (0 octets) may have any pointer, NULL too. That each pointer is good for its number of octets is
@@ -34,7 +34,7 @@ extern "C" {
  * The edition of this header and of the library that goes with it. It rises by one with each request that changes what
  * a caller has compiled: a call, a word of an answer, a size, a code. desterlin.pc has the same one.
  */
-#define DESTERLIN_VERSION 1
+#define DESTERLIN_VERSION 2
 
 /* "None", where a word would be a row number: no row, no partner, no tile. */
 #define DESTERLIN_NONE UINT32_C(4294967295)
@@ -46,6 +46,7 @@ extern "C" {
 #define DESTERLIN_REPORT_ANSWER 20
 #define DESTERLIN_VERDICT_ANSWER 20
 #define DESTERLIN_LOOKUP_ANSWER 16
+#define DESTERLIN_WRITE_ANSWER 16
 #define DESTERLIN_FINDING 12
 
 /*
@@ -85,7 +86,7 @@ enum desterlin_table {
 /*
  * Why a listing is turned away. The reasons are checked in this order, but for UNKNOWN_CODE, which comes first. The
  * place is a table number and a row; it is 0 0 where nothing else is said. Report gives 1 to 8, verdict 9 too, lookup
- * 10 too.
+ * 10 too. Write gives 11, 5, 7, 8 and 12, and checks them in that order.
  */
 enum desterlin_reason {
     DESTERLIN_ACCEPTED = 0,            /* no refusal; the place is 0 0 */
@@ -99,7 +100,9 @@ enum desterlin_reason {
     DESTERLIN_REFUSED_TEXT = 7,        /* a text outside table 7, or NULL where not allowed; place: its table and row */
     DESTERLIN_REFUSED_FLAG = 8,        /* contents flag, spare or absent srs_id not as laid down; place: 2, its row */
     DESTERLIN_REFUSED_UNKNOWN_CODE = 9, /* verdict: the code is none of the 36 */
-    DESTERLIN_REFUSED_NO_TILES = 10    /* lookup: no such contents row, or its data_type is not "tiles" */
+    DESTERLIN_REFUSED_NO_TILES = 10,   /* lookup: no such contents row, or its data_type is not "tiles" */
+    DESTERLIN_REFUSED_PART = 11,       /* write: a part is not whole rows; place: the first such table, 0 */
+    DESTERLIN_REFUSED_ROOM = 12        /* write: the buffer is shorter than the listing */
 };
 
 /*
@@ -183,6 +186,40 @@ enum desterlin_lookup_word {
     DESTERLIN_LOOKUP_NUMBER = 1,
     DESTERLIN_LOOKUP_REFUSED_TABLE = 2,
     DESTERLIN_LOOKUP_REFUSED_ROW = 3
+};
+
+/*
+ * Write: six row tables and the name octets, each lent as a part, become one listing.
+ *
+ * A part is a table's octets as they stand in a listing: whole rows, one after the other, or none at all; the last part
+ * is the octets of table 7. The call lays the header, with every offset. What it writes the other calls accept, with the
+ * same rows and names, and the parts of an accepted listing write back to the same octets.
+ *
+ * answer (DESTERLIN_WRITE_ANSWER octets), four words:
+ *   0 number         0 written, or 11, 5, 7, 8 or 12 (enum desterlin_reason): 5, 7 and 8 as for the listing of these parts
+ *   1 refused table  \ place of the refusal; 0 0 where written
+ *   2 refused row    /
+ *   3 octets         of the listing, which is 64 and all parts; 0 where refused
+ *
+ * listing: it stands at the buffer's front. Lend the other calls so many octets as word 3 says: with what follows them
+ * they are no listing. Octets past them keep their values. DESTERLIN_LISTING_MOST octets have room for any listing.
+ * A refused write writes nothing to the buffer.
+ */
+uint32_t desterlin_write(const uint8_t *references, size_t references_size,
+                         const uint8_t *contents, size_t contents_size,
+                         const uint8_t *sets, size_t sets_size,
+                         const uint8_t *matrices, size_t matrices_size,
+                         const uint8_t *tiles, size_t tiles_size,
+                         const uint8_t *extensions, size_t extensions_size,
+                         const uint8_t *names, size_t names_size,
+                         uint8_t *listing, size_t listing_size,
+                         uint8_t *answer, size_t answer_size);
+
+enum desterlin_write_word {
+    DESTERLIN_WRITE_NUMBER = 0,
+    DESTERLIN_WRITE_REFUSED_TABLE = 1,
+    DESTERLIN_WRITE_REFUSED_ROW = 2,
+    DESTERLIN_WRITE_OCTETS = 3
 };
 
 /*
