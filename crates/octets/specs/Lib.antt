@@ -1,5 +1,6 @@
 pub mod Octets
 pub mod OctetLaws
+pub mod BufferLaws
 pub mod Search
 pub mod SearchLaws
 pub mod Gather

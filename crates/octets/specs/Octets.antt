@@ -1,6 +1,6 @@
--- Numbers in octets, little-endian, and a part of some octets. Each is total: what would stand past the end is 0, or no octets.
+-- Numbers in octets, little-endian, a part of some octets, and a buffer that is written. Each is total: what would stand past the end is 0, or no octets.
 use Prim.Native.Nat.{ℕ, _+_, _*_, _/_, _%_}
-use mathlib.Core.List.{List, [], _∷_}
+use mathlib.Core.List.{List, [], _∷_, _++_}
 use mathlib.Core.Bool.{Bool, cond}
 use lib.ListN.{length, getD, take, drop}
 use lib.Dec.{leb}
@@ -23,3 +23,7 @@ part s start len = cond (leb (start + len) (length s)) (take len (drop start s))
 -- the four octets of a u32, lowest first
 abbrev pub word : ℕ → List ℕ
 word w = w % 256 ∷ w / 256 % 256 ∷ w / 65536 % 256 ∷ w / 16777216 % 256 ∷ []
+
+-- a buffer with octets put at its front: what stands past them keeps its value
+unfoldable pub filled : List ℕ → List ℕ → List ℕ
+filled xs b = xs ++ drop (length xs) b

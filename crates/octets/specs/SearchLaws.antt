@@ -44,6 +44,10 @@ module _ (p : ℕ → Bool) where
   pub seek-more : (i n : ℕ) (b : Bool) → Seeking p i n → i < n → b ≡ p i → b ≡ false → Seeking p (i + 1) n
   seek-more i n b k l e f = record { within = add-one-le l; none = more i (k .none) (sym e ∙ f) }
 
+  -- starts at 1 where the test fails at 0, as that of a table does
+  pub seek-one : (n : ℕ) → p 0 ≡ false → 1 ≤ n → Seeking p 1 n
+  seek-one n e l = seek-more 0 n false (seek-start n) l (sym e) refl
+
   -- the same two for a place that a cursor holds
   pub cursor-start : (i n : ℕ) → i ≡ 0 → Seeking p i n
   cursor-start i n e = subst (λ (j : ℕ). Seeking p j n) (sym e) (seek-start n)
@@ -55,6 +59,15 @@ module _ (p : ℕ → Bool) where
   -- has found i, where the test holds (n is the code's own bound, m the definition's)
   pub seek-hit : (i n m : ℕ) (b : Bool) → Seeking p i n → i < n → b ≡ p i → b ≡ true → n ≡ m → i ≡ first p m
   seek-hit i n m b k l e f q = subst (λ (m : ℕ). i ≡ first p m) q (sym (hit i n l (k .none) (sym e ∙ f)))
+
+  -- whether it has found one
+  pub finds : (n k : ℕ) → k ≡ first p n → k < n → any p n ≡ true
+  unfolding any
+  finds n k e l = simp (← e) (lt-ltb k n l)
+
+  pub misses : (n k : ℕ) → k ≡ first p n → n ≤ k → any p n ≡ false
+  unfolding any
+  misses n k e l = simp (← e) (le-ltb k n l)
 
   -- or has come to n
   pub seek-end : (i n m : ℕ) → Seeking p i n → n ≤ i → n ≡ m → n ≡ first p m
@@ -105,6 +118,11 @@ module _ (p : ℕ → Bool) where
       by : (b : Bool) → ltb (first p n) n ≡ b → b ≡ true
       by true h = refl
       by false h = absurd (false≢true (sym (first-lowest n .below i (omega (arith, ltb-false (first p n) n h))) ∙ e))
+
+  -- a test that holds nowhere holds at none of them
+  pub none-at : (n : ℕ) → any p n ≡ false → (i : ℕ) → i < n → p i ≡ false
+  unfolding any
+  none-at n e i l = first-lowest n .below i (omega (arith, ltb-false (first p n) n e))
 
   pub any-none : (n : ℕ) → ((i : ℕ) → i < n → p i ≡ false) → any p n ≡ false
   unfolding any

@@ -57,6 +57,18 @@ pub fn put_word(w: &mut [u8], at: usize, x: usize)
     w[at + 3] = (x / 16777216 % 256) as u8;
 }
 
+// Octets put at a place that is there, one after the other.
+pub fn put_octets(out: &mut [u8], at: usize, octets: &[u8])
+    requires { ⌜ at + length (now octets) ≤ length (now out) ⌝ }
+    ensures { λ _. ⌜ now (out .exit) ≡ sets (now (out .entry)) at (now (octets .entry)) ⌝ }
+{
+    let mut i = 0;
+    while i < octets.len() {
+        out[at + i] = octets[i];
+        i += 1;
+    }
+}
+
 // The u32 at any place, 0 past the end.
 pub fn u32_at(s: &[u8], at: usize) -> u32
     ensures { λ r. ⌜ r ≡ le32 (now (s .entry)) at ⌝ }
