@@ -14,7 +14,8 @@ use Rattle.octets.specs.Search.{first}
 use Rattle.octets.specs.SearchLaws.{first-lowest}
 use Rattle.listing.specs.Listing.{row, count, offset, table, rows, layout}
 use Rattle.listing.specs.Refusals.{Reason, over, moved, badRow, lowestBadRow, badTable, badContents, headerReasons, rowReasons, outcome, numberOf, tableOf, rowOf, isAccepted}
-use Rattle.listing.specs.RefusalLaws.{thereAt, answerAt, Given, given-or-none, reasons, refused-exactly, refused-place, accepted-exactly, accepted-is}
+use Rattle.listing.specs.ReasonLaws.{thereAt, Given, given-or-none}
+use Rattle.listing.specs.RefusalLaws.{reasons, answerAt, refused-exactly, refused-place, accepted-exactly, accepted-is}
 use Rattle.listing.specs.declared.Outcome.{Outcome}
 use Rattle.listing.specs.declared.Outcome.the-variants.{Accepted}
 use Rattle.findings.specs.Demands.{AllFit}

@@ -7,56 +7,57 @@ use borrow.Author.Needs.{needs}
 use borrow.Author.Tests.{lt-ltb, le-ltb, eq-eqb, ne-eqb}
 use lib.Dec.{eqb}
 use Rattle.octets.specs.Search.{first, any}
-use Rattle.listing.specs.Listing.{table, rows, layout}
-use Rattle.listing.specs.Refusals.{Reason, lowestBadRow, badContents, headerReasons, rowReasons, rowOutcome, outcome}
-use Rattle.listing.specs.RefusalLaws.{reasons, thereAt, answerAt, Passed, passed-none, passed-more, decide-past, decide-stop}
+use Rattle.octets.specs.SearchLaws.{finds, misses}
+use Rattle.listing.specs.Listing.{table, tablesOf, numbered, rows, layout}
+use Rattle.listing.specs.TableLaws.{tables-numbered}
+use Rattle.listing.specs.Refusals.{Reason, lowestBadRow, badContents, headerReasons, rowReasons, checked, rowOutcome, outcome}
+use Rattle.listing.specs.ReasonLaws.{thereAt, answerBy, Passed, pasts, decide-past, decide-stop, decide-fault, decide-clean}
+use Rattle.listing.specs.RefusalLaws.{reasons, answerAt}
 use Rattle.listing.specs.declared.Layout.{Layout}
+use Rattle.listing.specs.declared.Checked.{Checked}
+use Rattle.listing.specs.declared.Checked.the-variants.{Clean, Fault}
 use Rattle.listing.specs.declared.Outcome.{Outcome}
 use Rattle.listing.specs.declared.Outcome.the-variants.{Accepted, Refused}
 
--- one more reason is passed; `search` takes no numeral for a successor, so each number stands by itself
-pub past-1 : (xs : List Reason) → Passed xs 0 → thereAt xs 0 ≡ false → Passed xs 1
-past-1 = passed-more 0
-
-pub past-2 : (xs : List Reason) → Passed xs 1 → thereAt xs 1 ≡ false → Passed xs 2
-past-2 = passed-more 1
-
-pub past-3 : (xs : List Reason) → Passed xs 2 → thereAt xs 2 ≡ false → Passed xs 3
-past-3 = passed-more 2
-
-pub past-4 : (xs : List Reason) → Passed xs 3 → thereAt xs 3 ≡ false → Passed xs 4
-past-4 = passed-more 3
-
-pub past-5 : (xs : List Reason) → Passed xs 4 → thereAt xs 4 ≡ false → Passed xs 5
-past-5 = passed-more 4
-
-pub past-6 : (xs : List Reason) → Passed xs 5 → thereAt xs 5 ≡ false → Passed xs 6
-past-6 = passed-more 5
-
-pub ruleset pasts = (passed-none, past-1, past-2, past-3, past-4, past-5, past-6)
-
--- reason k, from 0, of a listing, and of its rows
+-- ---- the header: reason k, from 0, of a listing
 module _ (k : ℕ) (s : List ℕ) (r : Outcome) where
   pub stop : Passed (reasons s) k → thereAt (reasons s) k ≡ true → r ≡ answerAt (reasons s) k (Accepted (layout s)) → r ≡ outcome s
   unfolding outcome
-  stop h e q = q ∙ sym (decide-stop (reasons s) (Accepted (layout s)) k h e)
-
-  pub row-stop : Passed (rowReasons (table s)) k → thereAt (rowReasons (table s)) k ≡ true → r ≡ answerAt (rowReasons (table s)) k (Accepted (layout s)) → r ≡ rowOutcome s
-  unfolding rowOutcome
-  row-stop h e q = q ∙ sym (decide-stop (rowReasons (table s)) (Accepted (layout s)) k h e)
+  stop h e q = q ∙ sym (decide-stop Refused (reasons s) (Accepted (layout s)) k h e)
 
 module _ (s : List ℕ) (r : Outcome) where
   pub header-past : Passed (reasons s) 6 → r ≡ rowOutcome s → r ≡ outcome s
   unfolding headerReasons outcome rowOutcome
-  header-past h q = q ∙ sym (decide-past (reasons s) (Accepted (layout s)) 6 h)
+  header-past h q = q ∙ sym (decide-past Refused (reasons s) (Accepted (layout s)) 6 h)
 
-  pub rows-past : Passed (rowReasons (table s)) 2 → r ≡ Accepted (layout s) → r ≡ rowOutcome s
-  unfolding rowReasons rowOutcome
-  rows-past h q = q ∙ sym (decide-past (rowReasons (table s)) (Accepted (layout s)) 2 h)
+-- ---- the rows of seven tables: reason k, from 0, of theirs
+pub check-stop : (k : ℕ) (xs : List Reason) (r : Checked) → Passed xs k → thereAt xs k ≡ true → r ≡ answerBy Fault xs k Clean → r ≡ checked xs
+unfolding checked
+check-stop k xs r h e q = q ∙ sym (decide-stop Fault xs Clean k h e)
+
+pub check-past : (ts : ℕ → List ℕ) (r : Checked) → Passed (rowReasons ts) 2 → r ≡ Clean → r ≡ checked (rowReasons ts)
+unfolding checked rowReasons
+check-past ts r h q = q ∙ sym (decide-past Fault (rowReasons ts) Clean 2 h)
+
+-- and those of a listing: what the check of them has said
+module _ (s : List ℕ) (ts : List (List ℕ)) (c : Checked) (r : Outcome) (e : ts ≡ tablesOf s) (h : c ≡ checked (rowReasons (numbered ts))) where
+  said : checked (rowReasons (table s)) ≡ c
+  said = ap (λ (u : ℕ → List ℕ). checked (rowReasons u)) (sym (ap numbered e ∙ tables-numbered s)) ∙ sym h
+
+  pub row-fault : (n t i : ℕ) → c ≡ Fault n t i → r ≡ Refused n t i → r ≡ rowOutcome s
+  unfolding rowOutcome
+  row-fault n t i f q = q ∙ sym (decide-fault Refused (rowReasons (table s)) (Accepted (layout s)) n t i (said ∙ f))
+
+  pub row-clean : c ≡ Clean → r ≡ Accepted (layout s) → r ≡ rowOutcome s
+  unfolding rowOutcome
+  row-clean f q = q ∙ sym (decide-clean Refused (rowReasons (table s)) (Accepted (layout s)) (said ∙ f))
 
 -- the place, by numbers that equal its own
 pub placed : (r : Outcome) (n t i u j : ℕ) → r ≡ Refused n t i → t ≡ u → i ≡ j → r ≡ Refused n u j
 placed r n t i u j e f g = cc
+
+pub faulted : (r : Checked) (n t i u j : ℕ) → r ≡ Fault n t i → t ≡ u → i ≡ j → r ≡ Fault n u j
+faulted r n t i u j e f g = cc
 
 -- what a test says of numbers that equal its own
 pub differs : (a b v : ℕ) → v ≡ a → (v ≡ b → ⊥) → not (eqb a b) ≡ true
@@ -64,15 +65,6 @@ differs a b v e n = ap not (ne-eqb a b (λ q. n (e ∙ q)))
 
 pub agrees : (a b v : ℕ) → v ≡ a → v ≡ b → not (eqb a b) ≡ false
 agrees a b v e q = ap not (eq-eqb a b (sym e ∙ q))
-
-module _ (p : ℕ → Bool) (n k : ℕ) where
-  pub finds : k ≡ first p n → k < n → any p n ≡ true
-  unfolding any
-  finds e l = simp (← e) (lt-ltb k n l)
-
-  pub misses : k ≡ first p n → n ≤ k → any p n ≡ false
-  unfolding any
-  misses e l = simp (← e) (le-ltb k n l)
 
 pub ruleset headers = (pasts, placed, lt-ltb, le-ltb, differs, agrees, finds, misses, needs)
 
@@ -92,4 +84,4 @@ module _ (t u : List ℕ) (i : ℕ) (e : t ≡ u) (f : i ≡ first (badContents 
   unfolding any
   contents-miss n g l = cc (le-ltb i n l)
 
-pub ruleset bodies = (pasts, placed, finds, misses, lowest-at, contents-at, contents-find, contents-miss, needs)
+pub ruleset bodies = (pasts, faulted, finds, misses, lowest-at, contents-at, contents-find, contents-miss, needs)

@@ -12,22 +12,19 @@ use lib.ListN.{length, take, drop, length-take, length-drop}
 use lib.Seq.{take-add, take-length}
 use Rattle.octets.specs.Octets.{part}
 use Rattle.octets.specs.Search.{first, any}
-use Rattle.octets.specs.SearchLaws.{first-lowest}
+use Rattle.octets.specs.SearchLaws.{first-lowest, none-at}
 use Rattle.octets.specs.Gather.{gather}
 use Rattle.listing.specs.Listing.{row, most, count, offset, start, table, rows}
+use Rattle.listing.specs.TableLaws.{tables-seven}
 use Rattle.listing.specs.Refusals.{over, moved, badRow, lowestBadRow, badTable, badContents, headerReasons, rowReasons, outcome, isAccepted}
-use Rattle.listing.specs.RefusalLaws.{thereAt, reasons, accepted-exactly}
+use Rattle.listing.specs.ReasonLaws.{thereAt}
+use Rattle.listing.specs.RefusalLaws.{reasons, accepted-exactly}
 
 -- every table has a row of some octets
 pub row-some : (k : ℕ) → 1 ≤ k → k ≤ 7 → 0 < row k
 unfolding first row
 row-some zero l h = l
 row-some (suc k) l h = omega (arith, eqb-false (row (suc k)) 0 (first-lowest (λ j. eqb (row (suc j)) 0) 7 .below k h))
-
--- a test that holds at none holds at each of them not
-none-at : (p : ℕ → Bool) (n : ℕ) → any p n ≡ false → (i : ℕ) → i < n → p i ≡ false
-unfolding any
-none-at p n e i l = first-lowest p n .below i (omega (arith, ltb-false (first p n) n e))
 
 or-left : (a b : Bool) → (a || b) ≡ false → a ≡ false
 or-left true b e = e
@@ -45,15 +42,6 @@ module _ (s : List ℕ) where
   start-grows zero (suc k) h = omega arith
   start-grows (suc n) k h =
       ⊎-elim (λ q. subst (λ (m : ℕ). start s m ≤ start s (suc n)) (sym q) (le-refl _)) (λ g. omega (arith, start-grows n k (le-of-suc-le-suc g))) (eq-or-lt-of-le h)
-
-  -- there is no table 0
-  table-none : table s 0 ≡ []
-  unfolding table part row
-  table-none = by (leb (offset s 0 + 0 * count s 0) (length s))
-    where
-      by : (b : Bool) → cond b (take (0 * count s 0) (drop (offset s 0) s)) [] ≡ []
-      by true = simp zero-mul
-      by false = refl
 
 module _ (s : List ℕ) (a : isAccepted (outcome s) ≡ true) where
   none-over : (k : ℕ) → k ≤ 7 → over s k ≡ false
@@ -84,7 +72,7 @@ module _ (s : List ℕ) (a : isAccepted (outcome s) ≡ true) where
   -- a table is the octets between its start and the next
   table-cut : (k : ℕ) → k ≤ 7 → table s k ≡ take (row k * count s k) (drop (start s k) s)
   unfolding table part row
-  table-cut zero h = table-none s ∙ simp zero-mul
+  table-cut zero h = tables-seven s .none ∙ simp zero-mul
   table-cut (suc k) h =
       let e : offset s (suc k) ≡ start s (suc k) = offset-start (suc k) (omega arith) h in
       simp (e, le-leb (start s (suc k) + row (suc k) * count s (suc k)) (length s) (table-inside (suc k) h))
@@ -107,7 +95,7 @@ module _ (s : List ℕ) (a : isAccepted (outcome s) ≡ true) where
   header-and-tables = sym (so-far 8 (omega arith)) ∙ ap (λ (n : ℕ). take n s) final-end ∙ take-length s
 
   pub listing-whole : s ≡ take 64 s ++ table s 1 ++ table s 2 ++ table s 3 ++ table s 4 ++ table s 5 ++ table s 6 ++ table s 7
-  listing-whole = sym header-and-tables ∙ simp (table-none s, append-assoc)
+  listing-whole = sym header-and-tables ∙ simp (tables-seven s .none, append-assoc)
 
   -- no row has a text outside the names, and no flag of the contents is at fault
   pub no-bad-table : (k : ℕ) → k ≤ 6 → badTable (table s) k ≡ false

@@ -4,18 +4,27 @@ ghost use Prim.Native.Nat.{_+_, _<_};
 ghost use Rattle.listing.specs.Listing.{count, offset};
 
 mod header;
+mod put;
 mod refusals;
 mod rows;
+mod tables;
 
 use header::count_of;
 pub use header::most_of;
 use header::offset_of;
 pub use header::row_of;
 pub use header::table_of;
+pub use put::put_header;
+pub use put::start_by;
 pub use refusals::accept;
+pub use refusals::check_rows;
 pub use rows::first_bad_contents;
 pub use rows::first_bad_row;
 pub use rows::rows_of;
+pub use tables::TABLE_COUNT;
+pub use tables::cut;
+pub use tables::slice_of;
+pub use tables::table_at;
 
 // Each table knows the octets of its row and its most rows. What the header says of it: how many rows, and where.
 pub struct ReferenceTable {
@@ -194,6 +203,12 @@ pub struct Layout {
     pub tiles: TileTable,
     pub extensions: ExtensionTable,
     pub names: NameTable,
+}
+
+// What a check of some reasons says: none is there, or the first that is.
+pub enum Checked {
+    Clean,
+    Fault { number: u32, table: u32, row: u32 },
 }
 
 pub enum Outcome {

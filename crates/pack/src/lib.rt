@@ -7,7 +7,10 @@ use listing::ExtensionTable;
 use listing::MatrixTable;
 use listing::ReferenceTable;
 use listing::SetTable;
+pub use listing::TABLE_COUNT;
 use listing::TileTable;
+pub use listing::cut;
+pub use listing::slice_of;
 use octets::Name;
 use octets::Text;
 
@@ -22,11 +25,8 @@ pub use tables::MATRICES;
 pub use tables::NAMES;
 pub use tables::REFERENCES;
 pub use tables::SETS;
-pub use tables::TABLE_COUNT;
 pub use tables::TILES;
-pub use tables::cut;
 pub use tables::rows_in;
-pub use tables::slice_of;
 pub use texts::same_text;
 pub use texts::text_octets;
 

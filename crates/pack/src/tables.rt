@@ -1,9 +1,6 @@
-// The tables of a listing as one value: an array of slices, cut once and handed on whole.
+// The tables of a listing as one value: the place of each, and its rows.
 ghost use mathlib.Core.Path.{_≡_};
 ghost use mathlib.Core.List.{map};
-ghost use Prim.Native.Nat.{_<_};
-ghost use Rattle.octets.specs.Slices.{nth};
-ghost use Rattle.listing.specs.Listing.{tablesOf};
 ghost use Rattle.pack.specs.Rows.{rowsIn};
 ghost use Rattle.pack.specs.Tables.{packIn};
 use listing::ContentsTable;
@@ -11,8 +8,9 @@ use listing::ExtensionTable;
 use listing::MatrixTable;
 use listing::ReferenceTable;
 use listing::SetTable;
+use listing::TABLE_COUNT;
 use listing::TileTable;
-use listing::table_of;
+use listing::slice_of;
 
 // The place of each table in the array.
 pub const REFERENCES: usize = 0;
@@ -28,32 +26,6 @@ pub const TILES: usize = 4;
 pub const EXTENSIONS: usize = 5;
 
 pub const NAMES: usize = 6;
-
-// How many tables there are.
-pub const TABLE_COUNT: usize = 7;
-
-// The seven tables of a listing.
-pub fn cut<'a>(listing: &'a [u8]) -> [&'a [u8]; TABLE_COUNT]
-    ensures { λ r. ⌜ map now r ≡ tablesOf (now (listing .entry)) ⌝ }
-{
-    [
-        table_of(listing, 1),
-        table_of(listing, 2),
-        table_of(listing, 3),
-        table_of(listing, 4),
-        table_of(listing, 5),
-        table_of(listing, 6),
-        table_of(listing, 7),
-    ]
-}
-
-// The table at a place.
-pub fn slice_of<'a>(tables: [&'a [u8]; TABLE_COUNT], k: usize) -> &'a [u8]
-    requires { ⌜ k < 7 ⌝ }
-    ensures { λ r. ⌜ now r ≡ nth (map now (tables .entry)) k ⌝ }
-{
-    tables[k]
-}
 
 // How many rows the table with a number has; 0 where no table with rows has it.
 pub fn rows_in(tables: [&[u8]; TABLE_COUNT], table: u32) -> usize

@@ -1,9 +1,9 @@
--- `pack::tables::cut` meets its contract.
+-- `listing::tables::cut` meets its contract.
 use mathlib.Core.List.{[], _∷_}
 use Rattle.listing.specs.Listing.{tablesOf}
 use borrow.Author.Needs.{needs}
-use Rattle.pack.proofs.tables.cut.Statement.{statement}
-use Rattle.pack.proofs.tables.cut.Tie as tie
+use Rattle.listing.proofs.tables.cut.Statement.{statement}
+use Rattle.listing.proofs.tables.cut.Tie as tie
 
 pub cut-spec : {M : Type 1} → statement M
 unfolding tablesOf

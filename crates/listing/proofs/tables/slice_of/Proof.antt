@@ -1,11 +1,11 @@
--- `pack::tables::slice_of` meets its contract.
+-- `listing::tables::slice_of` meets its contract.
 use mathlib.Core.Path.{sym}
 use denote.Ref.{now}
 use Rattle.octets.specs.Slices.{nth}
 use Rattle.octets.specs.SliceLaws.{behind}
 use borrow.Author.Needs.{needs}
-use Rattle.pack.proofs.tables.slice_of.Statement.{statement}
-use Rattle.pack.proofs.tables.slice_of.Tie as tie
+use Rattle.listing.proofs.tables.slice_of.Statement.{statement}
+use Rattle.listing.proofs.tables.slice_of.Tie as tie
 
 pub slice-of-spec : {M : Type 1} → statement M
 unfolding nth
