@@ -1,0 +1,17 @@
+-- `writer::parts::sizes_of` meets its contract.
+use Rattle.writer.proofs.Laws.{numbers-are}
+use borrow.Author.Needs.{needs}
+use Rattle.writer.proofs.parts.sizes_of.Statement.{statement}
+use Rattle.writer.proofs.parts.sizes_of.Tie as tie
+
+pub sizes-of-spec : {M : Type 1} → statement M
+sizes-of-spec =
+    tie.close
+    (tie.spec (λ c κs. search needs)
+    (λ c κs. search needs)
+    (λ c κs. search needs)
+    (λ c κs. search needs)
+    (λ c κs. search needs)
+    (λ c κs. search needs)
+    (λ c κs. search needs)
+    (λ c. search (numbers-are, needs)))

@@ -1,0 +1,100 @@
+// The reasons for writing nothing, in their order.
+ghost use mathlib.Core.Path.{_≡_};
+ghost use mathlib.Core.List.{map};
+ghost use Prim.Native.Nat.{_≤_};
+ghost use Rattle.octets.specs.Search.{first};
+ghost use Rattle.listing.specs.Listing.{numbered};
+ghost use Rattle.writer.specs.PartLaws.{Sized};
+ghost use Rattle.writer.specs.Writing.{ragged, crowded, roomAnswer, sizedAnswer, writeAnswer};
+use crate::Written;
+use crate::parts::length_of;
+use listing::Checked;
+use listing::TABLE_COUNT;
+use listing::table_at;
+
+fn is_ragged(parts: [&[u8]; TABLE_COUNT], k: usize) -> bool
+    requires { ⌜ (1 ≤ k) × (k ≤ 7) ⌝ }
+    ensures { λ r. ⌜ r ≡ ragged (numbered (map now (parts .entry))) k ⌝ }
+{
+    table_at(parts, k).len() % (listing::row_of(k) as usize) != 0
+}
+
+// The lowest table whose part is not whole rows, or 8.
+fn first_ragged(parts: [&[u8]; TABLE_COUNT]) -> usize
+    ensures { λ r. ⌜ r ≡ first (ragged (numbered (map now (parts .entry)))) 8 ⌝ }
+{
+    let mut k = 1;
+    while k < 8 {
+        if is_ragged(parts, k) {
+            return k;
+        }
+        k += 1;
+    }
+    8
+}
+
+fn is_crowded(parts: [&[u8]; TABLE_COUNT], k: usize) -> bool
+    requires { ⌜ (1 ≤ k) × (k ≤ 7) ⌝ }
+    ensures { λ r. ⌜ r ≡ crowded (numbered (map now (parts .entry))) k ⌝ }
+{
+    (listing::most_of(k) as usize) < listing::rows_of(k, table_at(parts, k))
+}
+
+// The lowest table with more rows than its most, or 8.
+fn first_crowded(parts: [&[u8]; TABLE_COUNT]) -> usize
+    ensures { λ r. ⌜ r ≡ first (crowded (numbered (map now (parts .entry)))) 8 ⌝ }
+{
+    let mut k = 1;
+    while k < 8 {
+        if is_crowded(parts, k) {
+            return k;
+        }
+        k += 1;
+    }
+    8
+}
+
+fn refused(number: u32, table: u32, row: u32) -> Written
+    ensures { λ r. ⌜ r ≡ Written.Refused number table row ⌝ }
+{
+    Written::Refused { number, table, row }
+}
+
+// Whether the listing has room in so many octets.
+fn room_answer(parts: [&[u8]; TABLE_COUNT], room: usize) -> Written
+    requires { ⌜ Sized (numbered (map now parts)) ⌝ }
+    ensures { λ r. ⌜ r ≡ roomAnswer (numbered (map now (parts .entry))) room ⌝ }
+{
+    let n = length_of(parts);
+    if room < n {
+        return refused(12, 0, 0);
+    }
+    Written::Octets(n)
+}
+
+// The answer to parts of whole rows, none of which has too many.
+fn sized_answer(parts: [&[u8]; TABLE_COUNT], room: usize) -> Written
+    requires { ⌜ Sized (numbered (map now parts)) ⌝ }
+    ensures { λ r. ⌜ r ≡ sizedAnswer (numbered (map now (parts .entry))) room ⌝ }
+{
+    let said = listing::check_rows(parts);
+    match said {
+        Checked::Fault { number, table, row } => refused(number, table, row),
+        Checked::Clean => room_answer(parts, room),
+    }
+}
+
+// The answer to parts and the octets of a buffer.
+pub fn answer(parts: [&[u8]; TABLE_COUNT], room: usize) -> Written
+    ensures { λ r. ⌜ r ≡ writeAnswer (numbered (map now (parts .entry))) room ⌝ }
+{
+    let k = first_ragged(parts);
+    if k < 8 {
+        return refused(11, k as u32, 0);
+    }
+    let k = first_crowded(parts);
+    if k < 8 {
+        return refused(5, k as u32, 0);
+    }
+    sized_answer(parts, room)
+}
