@@ -1,19 +1,19 @@
 -- "Every octet string is judged, or refused under one numbered reason": the reasons 1 to 8, their number and place.
-use Prim.Native.Nat.{ℕ, zero, suc, _+_, _*_, _<_, _≤_}
+use Prim.Native.Nat.{ℕ, zero, suc, _<_, _≤_}
 use mathlib.Core.Path.{_≡_, refl, ap}
-use mathlib.Core.Bool.{Bool, true, false, cond, _&&_, and-eq-true-iff, false≢true}
+use mathlib.Core.Bool.{Bool, true, false, _&&_, and-eq-true-iff, false≢true}
 use mathlib.Core.List.{List, [], _∷_}
 use mathlib.Core.Logic.{_⊎_, inl, inr, _↔_}
 use native.Mathlib.Nat.{div-le-self}
 use native.Mathlib.Omega.{arith}
 use borrow.Author.Tests.{ltb-true, ltb-false}
-use lib.Dec.{ltb, leb}
-use lib.ListN.{length, take, drop, length-take, length-drop}
-use Rattle.octets.specs.Octets.{part}
+use lib.Dec.{ltb}
+use lib.ListN.{length}
 use Rattle.octets.specs.Search.{first}
 use Rattle.octets.specs.SearchLaws.{first-lowest}
-use Rattle.listing.specs.Listing.{row, count, offset, table, rows, layout}
+use Rattle.listing.specs.Listing.{row, table, rows, layout}
 use Rattle.listing.specs.Refusals.{Reason, over, moved, badRow, lowestBadRow, badTable, badContents, headerReasons, rowReasons, outcome, numberOf, tableOf, rowOf, isAccepted}
+use Rattle.listing.specs.TableLaws.{table-short}
 use Rattle.listing.specs.ReasonLaws.{thereAt, Given, given-or-none}
 use Rattle.listing.specs.RefusalLaws.{reasons, answerAt, refused-exactly, refused-place, accepted-exactly, accepted-is}
 use Rattle.listing.specs.declared.Outcome.{Outcome}
@@ -67,17 +67,9 @@ module _ (s : List ℕ) where
       by (inr g) = omega (arith, g .1, refused-exactly s (g .0) .1 (g .2))
 
   -- ---- number, table and row fit their words
-  table-short : (k : ℕ) → length (table s k) ≤ length s
-  unfolding table part
-  table-short k = by (leb (offset s k + row k * count s k) (length s))
-    where
-      by : (b : Bool) → length (cond b (take (row k * count s k) (drop (offset s k) s)) []) ≤ length s
-      by true = simp (length-take, length-drop) (omega arith)
-      by false = omega arith
-
   rows-short : (k : ℕ) → rows k (table s k) ≤ length s
   unfolding rows
-  rows-short k = omega (arith, div-le-self (length (table s k)) (row k), table-short k)
+  rows-short k = omega (arith, div-le-self (length (table s k)) (row k), table-short s k)
 
   bad-row-short : (k : ℕ) → lowestBadRow (table s) k ≤ length s
   unfolding lowestBadRow

@@ -9,8 +9,9 @@ use native.Mathlib.Omega.{arith}
 use lib.Dec.{ltb, ltb→lt}
 use lib.IntN.{ℤ}
 use lib.ListN.{length, getD, take, drop, length-take}
-use lib.Seq.{take-append-add, getD-append-add, getD-drop}
-use Rattle.octets.specs.Octets.{le32, word}
+use lib.Seq.{take-append-add}
+use Rattle.octets.specs.Octets.{le32, word, filled}
+use Rattle.octets.specs.BufferLaws.{filled-past}
 use Rattle.octets.specs.OctetLaws.{le32-word, le32-past}
 use Rattle.octets.specs.TableLaws.{at}
 use Rattle.listing.specs.Refusals.{outcome, isAccepted}
@@ -143,14 +144,11 @@ buffer-none b = let z : min 0 (room b) ≡ 0 = omega arith in rw z
 
 -- "words past those keep their values"
 pub buffer-past : (fs : List Finding) (b : List ℕ) (j : ℕ) → 12 * writtenOf fs b ≤ j → getD (bufferOf fs b) j 0 ≡ getD b j 0
-unfolding bufferOf writtenOf
+unfolding bufferOf writtenOf filled
 buffer-past fs b j h =
-    let w : ℕ = min (length fs) (room b) in
-    let os : List ℕ = findingOctets (take w fs) in
-    let l : length os ≡ 12 * w = octets-length (take w fs) ∙ simp length-take (omega arith) in
-    let e : j ≡ length os + (j - 12 * w) = omega arith in
-    let d : 12 * w + (j - 12 * w) ≡ j = omega arith in
-    ap (λ (n : ℕ). getD (os ++ drop (12 * w) b) n 0) e ∙ getD-append-add os (drop (12 * w) b) (j - 12 * w) 0 ∙ getD-drop (12 * w) b (j - 12 * w) 0 ∙ ap (λ (n : ℕ). getD b n 0) d
+    let os : List ℕ = findingOctets (take (min (length fs) (room b)) fs) in
+    let l : length os ≡ 12 * min (length fs) (room b) = octets-length (take (min (length fs) (room b)) fs) ∙ simp length-take (omega arith) in
+    ap (λ (n : ℕ). getD (os ++ drop n b) j 0) (sym l) ∙ filled-past os b j (omega arith)
 
 -- a finding that is written reads, in its place, as its code, row and partner
 read-after : (before : List Finding) (f : Finding) (after : List Finding) (rest : List ℕ) (m k : ℕ) → AllFit (wordsOf f) → k < 3

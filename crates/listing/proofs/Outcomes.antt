@@ -2,7 +2,7 @@
 use Prim.Native.Nat.{ℕ, _<_, _≤_}
 use mathlib.Core.Path.{_≡_, sym, ap, _∙_}
 use mathlib.Core.List.{List}
-use mathlib.Core.Bool.{Bool, true, false, not}
+use mathlib.Core.Bool.{true, false, not}
 use borrow.Author.Needs.{needs}
 use borrow.Author.Tests.{lt-ltb, le-ltb, eq-eqb, ne-eqb}
 use lib.Dec.{eqb}
@@ -13,7 +13,6 @@ use Rattle.listing.specs.TableLaws.{tables-numbered}
 use Rattle.listing.specs.Refusals.{Reason, lowestBadRow, badContents, headerReasons, rowReasons, checked, rowOutcome, outcome}
 use Rattle.listing.specs.ReasonLaws.{thereAt, answerBy, Passed, pasts, decide-past, decide-stop, decide-fault, decide-clean}
 use Rattle.listing.specs.RefusalLaws.{reasons, answerAt}
-use Rattle.listing.specs.declared.Layout.{Layout}
 use Rattle.listing.specs.declared.Checked.{Checked}
 use Rattle.listing.specs.declared.Checked.the-variants.{Clean, Fault}
 use Rattle.listing.specs.declared.Outcome.{Outcome}

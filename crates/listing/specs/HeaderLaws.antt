@@ -1,9 +1,8 @@
 -- The laws of a header that is written: it is read as it was meant, and that of an accepted listing is written again.
 use Prim.Native.Nat.{ℕ, zero, suc, _+_, _*_, _^_, _<_, _≤_}
-use mathlib.Core.Path.{_≡_, refl, sym, ap, _∙_}
-use mathlib.Core.List.{List, [], _∷_, _++_, append-assoc}
-use mathlib.Core.Bool.{true, false}
-use native.Mathlib.Nat.{add-zero}
+use mathlib.Core.Path.{_≡_, refl, sym, _∙_}
+use mathlib.Core.List.{List, _++_, append-assoc}
+use mathlib.Core.Bool.{true}
 use native.Mathlib.Numerals.{add-one}
 use native.Mathlib.Omega.{arith}
 use borrow.Author.Tests.{eqb-true, ltb-false, not-false}
@@ -13,7 +12,7 @@ use Rattle.octets.specs.Octets.{le32, word, filled}
 use Rattle.octets.specs.BufferLaws.{filled-more}
 use Rattle.octets.specs.OctetLaws.{le32-word, le32-past, word-back}
 use Rattle.octets.specs.Gather.{gather}
-use Rattle.octets.specs.GatherLaws.{gather-one, gather-upto, gather-even, gather-agree}
+use Rattle.octets.specs.GatherLaws.{gather-upto, gather-even, gather-agree}
 use Rattle.listing.specs.Listing.{row, version, total, count, offset, start}
 use Rattle.listing.specs.Header.{startOf, two, pair, pairs, header}
 use Rattle.listing.specs.Refusals.{headerReasons, outcome, isAccepted}

@@ -1,13 +1,13 @@
 -- What an accepted listing is: header and tables follow each other without gaps, each table is whole and no longer than its most, and no row is at fault.
-use Prim.Native.Nat.{ℕ, zero, suc, _+_, _*_, _/_, _<_, _≤_}
+use Prim.Native.Nat.{ℕ, zero, suc, _+_, _*_, _<_, _≤_}
 use mathlib.Core.Path.{_≡_, refl, sym, ap, _∙_, subst}
-use mathlib.Core.List.{List, [], _++_, append-assoc, append-nil}
-use mathlib.Core.Bool.{Bool, true, false, cond, not, _&&_, _||_, false≢true}
+use mathlib.Core.List.{List, _++_, append-assoc, append-nil}
+use mathlib.Core.Bool.{Bool, true, false, not, _&&_, _||_, false≢true}
 use mathlib.Core.Logic.{⊎-elim}
 use native.Mathlib.Nat.{le-refl, le-of-suc-le-suc, eq-or-lt-of-le, mul-div-cancel-left, zero-mul}
 use native.Mathlib.Omega.{arith}
 use borrow.Author.Tests.{lt-ltb, eqb-true, eqb-false, ltb-false, not-false, le-leb}
-use lib.Dec.{eqb, ltb, leb}
+use lib.Dec.{eqb}
 use lib.ListN.{length, take, drop, length-take, length-drop}
 use lib.Seq.{take-add, take-length}
 use Rattle.octets.specs.Octets.{part}
@@ -17,8 +17,7 @@ use Rattle.octets.specs.Gather.{gather}
 use Rattle.listing.specs.Listing.{row, most, count, offset, start, table, rows}
 use Rattle.listing.specs.TableLaws.{tables-seven}
 use Rattle.listing.specs.Refusals.{over, moved, badRow, lowestBadRow, badTable, badContents, headerReasons, rowReasons, outcome, isAccepted}
-use Rattle.listing.specs.ReasonLaws.{thereAt}
-use Rattle.listing.specs.RefusalLaws.{reasons, accepted-exactly}
+use Rattle.listing.specs.RefusalLaws.{accepted-exactly}
 
 -- every table has a row of some octets
 pub row-some : (k : ℕ) → 1 ≤ k → k ≤ 7 → 0 < row k

@@ -54,7 +54,8 @@ module _ (s : List ℕ) where
       by (suc (suc (suc (suc (suc (suc (suc zero))))))) = refl
       by (suc (suc (suc (suc (suc (suc (suc (suc k)))))))) = sym (tables-seven .past (suc (suc (suc (suc (suc (suc (suc (suc k)))))))) (omega arith))
 
-  table-short : (k : ℕ) → length (table s k) ≤ length s
+  -- no table is longer than the listing
+  pub table-short : (k : ℕ) → length (table s k) ≤ length s
   unfolding table part
   table-short k = by (leb (offset s k + row k * count s k) (length s))
     where
@@ -74,3 +75,28 @@ numbered-at ts (suc k) t l e = let q : suc k - 1 ≡ k = omega arith in e ∙ ap
 pub numbered-none : (ts : List (List ℕ)) → numbered ts 0 ≡ []
 unfolding numbered nth
 numbered-none ts = refl
+
+-- ---- seven octet strings
+pub numbered-seven : (ts : List (List ℕ)) → length ts ≡ 7 → Seven (numbered ts)
+unfolding numbered nth
+numbered-seven ts h = record { none = refl; past = past }
+  where
+    past : (k : ℕ) → 8 ≤ k → nth ([] ∷ ts) k ≡ []
+    past k l = let g : length ([] ∷ ts) ≤ k = omega (arith, h) in List·getD-eq-default ([] ∷ ts) [] g
+
+-- are the tables of a listing that has them by their numbers
+pub tables-are : (s : List ℕ) (ts : List (List ℕ)) → length ts ≡ 7 → table s ≡ numbered ts → tablesOf s ≡ ts
+unfolding tablesOf numbered nth
+tables-are s ts h e =
+    ap (λ (f : ℕ → List ℕ). f 1 ∷ f 2 ∷ f 3 ∷ f 4 ∷ f 5 ∷ f 6 ∷ f 7 ∷ []) e ∙ all ts h
+  where
+    all : (ts : List (List ℕ)) → length ts ≡ 7 → numbered ts 1 ∷ numbered ts 2 ∷ numbered ts 3 ∷ numbered ts 4 ∷ numbered ts 5 ∷ numbered ts 6 ∷ numbered ts 7 ∷ [] ≡ ts
+    all [] h = absurd (omega (arith, h))
+    all (a ∷ []) h = absurd (omega (arith, h))
+    all (a ∷ b ∷ []) h = absurd (omega (arith, h))
+    all (a ∷ b ∷ c ∷ []) h = absurd (omega (arith, h))
+    all (a ∷ b ∷ c ∷ d ∷ []) h = absurd (omega (arith, h))
+    all (a ∷ b ∷ c ∷ d ∷ e ∷ []) h = absurd (omega (arith, h))
+    all (a ∷ b ∷ c ∷ d ∷ e ∷ f ∷ []) h = absurd (omega (arith, h))
+    all (a ∷ b ∷ c ∷ d ∷ e ∷ f ∷ g ∷ []) h = refl
+    all (a ∷ b ∷ c ∷ d ∷ e ∷ f ∷ g ∷ i ∷ ts) h = absurd (omega (arith, h))

@@ -1,5 +1,5 @@
 -- The laws of a buffer that is written from its front, run after run: what is written, and then what it held.
-use Prim.Native.Nat.{ℕ, zero, suc, _+_, _-_, _<_, _≤_}
+use Prim.Native.Nat.{ℕ, suc, _+_, _-_, _<_, _≤_}
 use mathlib.Core.Path.{_≡_, refl, sym, ap, _∙_}
 use mathlib.Core.List.{List, [], _∷_, _++_, append-assoc}
 use native.Mathlib.Nat.{le-antisymm, add-zero, zero-add}
@@ -7,7 +7,7 @@ use native.Mathlib.Numerals.{add-one}
 use native.Mathlib.Omega.{arith}
 use borrow.Author.Tests.{le-leb}
 use lib.ListN.{length, take, drop, getD, set, length-append, length-drop}
-use lib.Seq.{sets, sets-eq, paste, paste-zero, paste-suc, take-append-seam, drop-append-seam, drop-append-add, drop-drop, take-length}
+use lib.Seq.{sets, sets-eq, paste, paste-zero, paste-suc, take-append-seam, drop-append-seam, drop-append-add, drop-drop, take-length, getD-append-add, getD-drop}
 use Rattle.octets.specs.Octets.{part, word, filled}
 
 -- ---- one run, octet by octet: b is the buffer before, s what is put at a place of it
@@ -41,6 +41,17 @@ filled-none b = refl
 pub length-filled : (xs b : List ℕ) → length xs ≤ length b → length (filled xs b) ≡ length b
 unfolding filled
 length-filled xs b h = simp (length-append, length-drop) (omega arith)
+
+-- the octets that were put stand at the front, and octets past them keep their values
+pub filled-front : (xs b : List ℕ) → take (length xs) (filled xs b) ≡ xs
+unfolding filled
+filled-front xs b = take-append-seam xs (drop (length xs) b)
+
+pub filled-past : (xs b : List ℕ) (j : ℕ) → length xs ≤ j → getD (filled xs b) j 0 ≡ getD b j 0
+unfolding filled
+filled-past xs b j h =
+    let e : length xs + (j - length xs) ≡ j = omega arith in
+    ap (λ (n : ℕ). getD (xs ++ drop (length xs) b) n 0) (sym e) ∙ getD-append-add xs (drop (length xs) b) (j - length xs) 0 ∙ getD-drop (length xs) b (j - length xs) 0 ∙ ap (λ (n : ℕ). getD b n 0) e
 
 -- the first run
 pub filled-first : (xs b c : List ℕ) → length xs ≤ length b → c ≡ sets b 0 xs → c ≡ filled xs b

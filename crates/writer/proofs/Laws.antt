@@ -1,8 +1,8 @@
 -- The cases of the definitions, in the shape in which needs ask for them.
-use Prim.Native.Nat.{ℕ, zero, suc, _+_, _*_, _/_, _%_, _^_, _<_, _≤_}
+use Prim.Native.Nat.{ℕ, zero, suc, _+_, _%_, _^_, _<_, _≤_}
 use mathlib.Core.Path.{_≡_, refl, sym, ap, _∙_}
 use mathlib.Core.List.{List, [], _∷_, _++_}
-use mathlib.Core.Bool.{Bool, true, false, not, _&&_}
+use mathlib.Core.Bool.{true, false, not}
 use native.Mathlib.Nat.{le-antisymm}
 use native.Mathlib.Numerals.{add-one}
 use native.Mathlib.Omega.{arith}
@@ -15,20 +15,20 @@ use mir.Syntax.{w32, w64}
 use mir.Val.{Fits}
 use Rattle.octets.specs.Octets.{filled}
 use Rattle.octets.specs.BufferLaws.{sets-append, filled-more}
-use Rattle.octets.specs.Search.{first, any}
+use Rattle.octets.specs.Search.{first}
 use Rattle.octets.specs.SearchLaws.{finds, misses}
 use Rattle.octets.specs.Gather.{gather}
 use Rattle.octets.specs.GatherLaws.{gather-upto, gather-agree}
 use Rattle.listing.specs.Listing.{row, most, numbered, rows}
-use Rattle.listing.specs.TableLaws.{Short, numbered-none}
+use Rattle.listing.specs.TableLaws.{numbered-none}
 use Rattle.listing.specs.Header.{listed, startOf, pair, pairs, header}
 use Rattle.listing.specs.HeaderLaws.{start-gather, start-agree, header-length}
-use Rattle.listing.specs.Refusals.{Reason, rowReasons, checked, decideBy}
+use Rattle.listing.specs.Refusals.{rowReasons, checked}
 use Rattle.listing.specs.ReasonLaws.{thereAt, answerBy, Passed, pasts, decide-past, decide-stop, decide-both, decide-fault, decide-clean}
 use Rattle.listing.specs.declared.Checked.{Checked}
 use Rattle.listing.specs.declared.Checked.the-variants.{Clean, Fault}
 use Rattle.writer.specs.Parts.{sizeOf, countOf, numbers, joined, written}
-use Rattle.writer.specs.PartLaws.{Sized, size-small, count-small, sized-short, written-length}
+use Rattle.writer.specs.PartLaws.{Sized, size-small, count-small, written-length}
 use Rattle.writer.specs.Writing.{ragged, crowded, sizeReasons, shortReason, writeReasons, roomAnswer, sizedAnswer, writeAnswer, givenOf, WriteOf}
 use Rattle.writer.specs.WriteLaws.{sized, octets-sized, octets-fit}
 use Rattle.writer.specs.declared.Written.{Written}

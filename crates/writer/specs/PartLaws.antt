@@ -1,7 +1,7 @@
 -- The laws of the parts: how long they are, and that the reader finds each of them in the listing that they make.
 use Prim.Native.Nat.{ℕ, zero, suc, _+_, _*_, _^_, _<_, _≤_}
-use mathlib.Core.Path.{_≡_, refl, sym, ap, _∙_, subst, fun-ext}
-use mathlib.Core.List.{List, [], _∷_, _++_, append-assoc}
+use mathlib.Core.Path.{_≡_, sym, ap, _∙_, subst, fun-ext}
+use mathlib.Core.List.{List, [], _++_, append-assoc}
 use mathlib.Core.Bool.{true}
 use native.Mathlib.Nat.{le-refl, zero-mul, mul-le-mul-left, lt-of-not-le}
 use native.Mathlib.Decide.{le-ind, decLe}

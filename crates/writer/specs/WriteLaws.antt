@@ -1,9 +1,9 @@
 -- What the writer's answers say: what it writes the reader accepts with the same tables, the tables of an accepted listing write back to it, and each reason is given exactly when its fault is there and no earlier one is.
-use Prim.Native.Nat.{ℕ, zero, suc, _+_, _*_, _/_, _%_, _^_, _<_, _≤_}
+use Prim.Native.Nat.{ℕ, zero, suc, _+_, _*_, _%_, _^_, _<_, _≤_}
 use mathlib.Core.Path.{_≡_, refl, sym, ap, _∙_, subst}
 use mathlib.Core.List.{List, [], _∷_, _++_, map}
-use mathlib.Core.Bool.{Bool, true, false, cond, not, _&&_, _||_}
-use mathlib.Core.Logic.{_⊎_, inl, inr, _↔_, ⊎-elim}
+use mathlib.Core.Bool.{Bool, true, false, cond, not, _&&_}
+use mathlib.Core.Logic.{_⊎_, inl, inr, _↔_}
 use native.Mathlib.Nat.{div-add-mod, mul-mod-right}
 use native.Mathlib.Omega.{arith}
 use borrow.Author.Tests.{lt-ltb, le-ltb, eq-eqb, eqb-true, ltb-false, not-false}
@@ -18,8 +18,8 @@ use Rattle.listing.specs.TableLaws.{Seven}
 use Rattle.listing.specs.Header.{startOf}
 use Rattle.listing.specs.HeaderLaws.{version-read, total-read, count-read}
 use Rattle.listing.specs.Refusals.{Reason, over, moved, headerReasons, rowReasons, decideBy, decide, outcome, isAccepted}
-use Rattle.listing.specs.ReasonLaws.{thereAt, numberAt, answerBy, Free, Given, given-or-none, free-left, free-right, free-both, decide-stop, decide-none, decide-both, Apart, given-exactly, good-exactly}
-use Rattle.listing.specs.RefusalLaws.{reasons, accepted-exactly, accepted-is}
+use Rattle.listing.specs.ReasonLaws.{numberAt, answerBy, Free, Given, given-or-none, free-left, free-right, free-both, decide-stop, decide-none, decide-both, Apart, given-exactly, good-exactly}
+use Rattle.listing.specs.RefusalLaws.{reasons, accepted-exactly}
 use Rattle.listing.specs.declared.Outcome.{Outcome}
 use Rattle.listing.specs.declared.Outcome.the-variants as reader
 use Rattle.writer.specs.Parts.{sizeOf, countOf, joined, written}
