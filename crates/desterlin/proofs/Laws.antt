@@ -1,7 +1,7 @@
 -- The promises of the calls, from what their parts have done.
 use Prim.Native.Nat.{ℕ, _<_, _≤_}
-use mathlib.Core.Path.{_≡_, refl, sym, ap, _∙_, subst}
-use mathlib.Core.Bool.{Bool, true, false, true≢false}
+use mathlib.Core.Path.{_≡_, refl, sym, _∙_}
+use mathlib.Core.Bool.{true≢false}
 use mathlib.Core.List.{List, [], _∷_, _++_}
 use lib.ListN.{length, drop}
 use lib.Seq.{sets, sets-eq}
@@ -9,15 +9,18 @@ use lib.IntN.{ℤ}
 use borrow.Author.Tests.{lt-ltb, le-ltb}
 use Rattle.octets.specs.Octets.{word}
 use Rattle.rules.specs.Judgments.{none}
-use Rattle.findings.specs.Answers.{verdictOf, lookupOf}
+use Rattle.findings.specs.Answers.{lookupOf}
 use Rattle.findings.specs.Words.{octetsOf, reportWords, rulingWords, locatedWords}
 use Rattle.findings.specs.declared.Ruling.{Ruling}
 use Rattle.findings.specs.declared.Ruling.the-variants as ruling
 use Rattle.findings.specs.declared.Located.{Located}
 use Rattle.findings.specs.declared.Located.the-variants as look
+use Rattle.listing.specs.Listing.{numbered}
+use Rattle.writer.specs.Writing.{numberIn, tableIn, rowIn, octetsIn, WriteOf}
+use Rattle.writer.specs.declared.Written.{Written}
 use Rattle.report.specs.Promises.{ReportOf, VerdictOf}
 use Rattle.report.specs.declared.Summary.{Summary}
-use Rattle.desterlin.specs.Calls.{ReportCall, VerdictCall, LookupCall}
+use Rattle.desterlin.specs.Calls.{ReportCall, VerdictCall, LookupCall, writtenWords, WriteCall}
 
 -- an answer's words at the front of its buffer
 five : (a : List ℕ) (v w x y z : ℕ) → 20 ≤ length a → sets a 0 (octetsOf (v ∷ w ∷ x ∷ y ∷ z ∷ [])) ≡ octetsOf (v ∷ w ∷ x ∷ y ∷ z ∷ []) ++ drop 20 a
@@ -81,3 +84,21 @@ module _ (s : List ℕ) (k : ℕ) (z c i : ℤ) (a : List ℕ) where
   lookup-answered v a′ h p x =
       let t = le-ltb (length a) 16 h in
       record { status = rw t; answer = rw (t, ← p) (x ∙ four-located v a h) }
+
+-- ---- write
+pub written-words : (v w : Written) (b b′ : List ℕ) → v ≡ w → b′ ≡ sets b 0 (octetsOf (writtenWords w)) → b′ ≡ sets b 0 (octetsOf (writtenWords v))
+written-words v w b b′ e q = rw e q
+
+four-written : (v : Written) (a : List ℕ) → 16 ≤ length a → sets a 0 (octetsOf (writtenWords v)) ≡ octetsOf (writtenWords v) ++ drop 16 a
+four-written v a h = four a (numberIn v) (tableIn v) (rowIn v) (octetsIn v) h
+
+module _ (ts : List (List ℕ)) (b a : List ℕ) where
+  pub write-short : length a < 16 → WriteCall ts b a 0 b a
+  write-short h =
+      let t = lt-ltb (length a) 16 h in
+      record { status = rw t; buffer = rw t; answer = rw t }
+
+  pub write-answered : (v : Written) (b′ a′ : List ℕ) → 16 ≤ length a → WriteOf (numbered ts) b v b′ → a′ ≡ sets a 0 (octetsOf (writtenWords v)) → WriteCall ts b a 1 b′ a′
+  write-answered v b′ a′ h p x =
+      let t = le-ltb (length a) 16 h in
+      record { status = rw t; buffer = rw t (p .buffer); answer = rw (t, ← p .answer) (x ∙ four-written v a h) }

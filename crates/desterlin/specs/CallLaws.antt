@@ -1,4 +1,4 @@
--- What a caller of the three calls has from their promises: one answer, which its words read as, and a refusal that writes nothing.
+-- What a caller of the calls on a listing has from their promises: one answer, which its words read as, and a refusal that writes nothing.
 use Prim.Native.Nat.{ℕ, _+_, _*_, _<_, _≤_}
 use mathlib.Core.List.{List, _∷_, _++_}
 use mathlib.Core.Path.{_≡_, refl, sym, ap, _∙_, subst}
@@ -63,7 +63,7 @@ lookup-short-kept {a = a} p h =
     (p .status ∙ rw t, p .answer ∙ rw t)
 
 -- ---- each word of an answer reads as its number
-answer-read : (size : ℕ) (ws a a′ : List ℕ) (k : ℕ) → size ≤ length a → AllFit ws → k < length ws → a′ ≡ answered size ws a → le32 a′ (4 * k) ≡ getD ws k 0
+pub answer-read : (size : ℕ) (ws a a′ : List ℕ) (k : ℕ) → size ≤ length a → AllFit ws → k < length ws → a′ ≡ answered size ws a → le32 a′ (4 * k) ≡ getD ws k 0
 answer-read size ws a a′ k h f l e =
     ap (λ (x : List ℕ). le32 x (4 * k)) (e ∙ rw (le-ltb (length a) size h)) ∙ words-read ws (drop size a) k f l
 

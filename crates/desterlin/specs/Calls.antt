@@ -1,11 +1,16 @@
--- What the three calls for C promise: the value returned, and every octet of every buffer that is lent to be written.
+-- What the four calls for C promise: the value returned, and every octet of every buffer that is lent to be written.
 -- What is left open is the workspace after an accepted call, which is scratch.
 use Prim.Native.Nat.{ℕ}
-use mathlib.Core.List.{List}
+use mathlib.Core.List.{List, [], _∷_}
 use mathlib.Core.Path.{_≡_}
 use mathlib.Core.Bool.{true, false, cond}
 use lib.IntN.{ℤ}
+use lib.ListN.{length}
+use Rattle.octets.specs.Octets.{filled}
+use Rattle.listing.specs.Listing.{numbered}
 use Rattle.listing.specs.Refusals.{outcome, isAccepted}
+use Rattle.writer.specs.Writing.{writeAnswer, numberIn, tableIn, rowIn, octetsIn, givenOf}
+use Rattle.writer.specs.declared.Written.{Written}
 use Rattle.findings.specs.Answers.{reported, verdictOf, isRefused, lookupOf}
 use Rattle.findings.specs.Words.{bufferOf, reportWords, rulingWords, locatedWords, isShort, statusOf, answered}
 
@@ -26,3 +31,13 @@ pub record VerdictCall (s : List ℕ) (code : ℕ) (w a : List ℕ) (r : ℕ) (w
 pub record LookupCall (s : List ℕ) (k : ℕ) (z c i : ℤ) (a : List ℕ) (r : ℕ) (a′ : List ℕ) : Type 0 where
   pub status : r ≡ statusOf 16 a
   pub answer : a′ ≡ answered 16 (locatedWords (lookupOf s k z c i)) a
+
+-- the writer's answer: number and place, octets written
+abbrev pub writtenWords : Written → List ℕ
+writtenWords a = numberIn a ∷ tableIn a ∷ rowIn a ∷ octetsIn a ∷ []
+
+-- ts are the seven parts; b and a are the buffer and the answer before the call, b′ and a′ after it
+pub record WriteCall (ts : List (List ℕ)) (b a : List ℕ) (r : ℕ) (b′ a′ : List ℕ) : Type 0 where
+  pub status : r ≡ statusOf 16 a
+  pub buffer : b′ ≡ cond (isShort 16 a) b (filled (givenOf (numbered ts) (writeAnswer (numbered ts) (length b))) b)
+  pub answer : a′ ≡ answered 16 (writtenWords (writeAnswer (numbered ts) (length b))) a

@@ -1,6 +1,13 @@
-// The three calls for C. Numbers and octet buffers only; words are little-endian. docs/API.md is for their callers.
+// The four calls for C. Numbers and octet buffers only; words are little-endian. docs/API.md is for their callers.
+ghost use mathlib.Core.Path.{_≡_};
+ghost use mathlib.Core.List.{[], _∷_};
+ghost use Prim.Native.Nat.{_≤_};
+ghost use lib.ListN.{length};
+ghost use lib.Seq.{sets};
 ghost use Rattle.octets.specs.Numbers.{signed};
-ghost use Rattle.desterlin.specs.Calls.{ReportCall, VerdictCall, LookupCall};
+ghost use Rattle.findings.specs.Words.{octetsOf};
+ghost use Rattle.desterlin.specs.Calls.{ReportCall, VerdictCall, LookupCall, writtenWords, WriteCall};
+use writer::Written;
 
 // Everything that is wrong with a listing. The answer: number, table and row of a refusal, total, written.
 #[no_mangle]
@@ -59,5 +66,56 @@ pub extern "C" fn desterlin_lookup(
     }
     let a = report::lookup(listing, contents_row as usize, zoom, column, row);
     report::put_located(answer, a);
+    1
+}
+
+fn put_four(answer: &mut [u8], number: u32, table: u32, row: u32, count: usize)
+    requires { ⌜ 16 ≤ length (now answer) ⌝ }
+    ensures { λ _. ⌜ now (answer .exit) ≡ sets (now (answer .entry)) 0 (octetsOf (number ∷ table ∷ row ∷ count ∷ [])) ⌝ }
+{
+    report::put_refusal(answer, 0, number, table, row);
+    octets::put_word(answer, 12, count);
+}
+
+// The writer's four words.
+fn put_written(answer: &mut [u8], a: Written)
+    requires { ⌜ 16 ≤ length (now answer) ⌝ }
+    ensures { λ _. ⌜ now (answer .exit) ≡ sets (now (answer .entry)) 0 (octetsOf (writtenWords a)) ⌝ }
+{
+    match a {
+        Written::Octets(n) => put_four(answer, 0, 0, 0, n),
+        Written::Refused { number, table, row } => put_four(answer, number, table, row, 0),
+    }
+}
+
+// Six row tables and the name octets as one listing in a buffer. The answer: number, table and row of a refusal, octets written.
+#[no_mangle]
+pub extern "C" fn desterlin_write<'a>(
+    references: &'a [u8],
+    contents: &'a [u8],
+    sets: &'a [u8],
+    matrices: &'a [u8],
+    tiles: &'a [u8],
+    extensions: &'a [u8],
+    names: &'a [u8],
+    listing: &mut [u8],
+    answer: &mut [u8],
+) -> u32
+    ensures { λ r. ⌜ WriteCall (now (references .entry) ∷ now (contents .entry) ∷ now (sets .entry) ∷ now (matrices .entry) ∷ now (tiles .entry) ∷ now (extensions .entry) ∷ now (names .entry) ∷ []) (now (listing .entry)) (now (answer .entry)) r (now (listing .exit)) (now (answer .exit)) ⌝ }
+{
+    if answer.len() < 16 {
+        return 0;
+    }
+    let parts = [
+        references,
+        contents,
+        sets,
+        matrices,
+        tiles,
+        extensions,
+        names,
+    ];
+    let a = writer::write(parts, listing);
+    put_written(answer, a);
     1
 }

@@ -2,8 +2,8 @@
 use Prim.Native.Nat.{ℕ, zero, suc, _+_, _*_, _%_, _^_, _<_, _≤_}
 use mathlib.Core.Path.{_≡_, refl, sym, ap, _∙_, subst}
 use mathlib.Core.List.{List, [], _∷_, _++_, map}
-use mathlib.Core.Bool.{Bool, true, false, cond, not, _&&_}
-use mathlib.Core.Logic.{_⊎_, inl, inr, _↔_}
+use mathlib.Core.Bool.{Bool, true, false, cond, not, _&&_, false≢true}
+use mathlib.Core.Logic.{_⊎_, inl, inr, _↔_, ⊎-elim}
 use native.Mathlib.Nat.{div-add-mod, mul-mod-right}
 use native.Mathlib.Omega.{arith}
 use borrow.Author.Tests.{lt-ltb, le-ltb, eq-eqb, eqb-true, ltb-false, not-false}
@@ -18,7 +18,7 @@ use Rattle.listing.specs.TableLaws.{Seven}
 use Rattle.listing.specs.Header.{startOf}
 use Rattle.listing.specs.HeaderLaws.{version-read, total-read, count-read}
 use Rattle.listing.specs.Refusals.{Reason, over, moved, headerReasons, rowReasons, decideBy, decide, outcome, isAccepted}
-use Rattle.listing.specs.ReasonLaws.{numberAt, answerBy, Free, Given, given-or-none, free-left, free-right, free-both, decide-stop, decide-none, decide-both, Apart, given-exactly, good-exactly}
+use Rattle.listing.specs.ReasonLaws.{thereAt, numberAt, answerBy, Free, Given, given-or-none, free-left, free-right, free-both, decide-stop, decide-none, decide-both, Apart, given-exactly, good-exactly}
 use Rattle.listing.specs.RefusalLaws.{reasons, accepted-exactly}
 use Rattle.listing.specs.declared.Outcome.{Outcome}
 use Rattle.listing.specs.declared.Outcome.the-variants as reader
@@ -251,6 +251,19 @@ module _ (ps : ℕ → List ℕ) (room : ℕ) where
       by (inl g) = inr g
       by (inr f) = inl (decide-none Refused (writeReasons ps room) (Octets (length (written ps))) f)
 
+  -- where no number is given, they are written
+  pub number-none : numberIn (writeAnswer ps room) ≡ 0 → writeAnswer ps room ≡ Octets (length (written ps))
+  unfolding writeReasons sizeReasons rowReasons
+  number-none e = ⊎-elim (λ h. h) (λ (g : (k : ℕ) × Given (writeReasons ps room) k). absurd (some (g .0) (g .1 .there) (ap numberIn (sym (refused-place (g .0) (g .1))) ∙ e))) written-or-refused
+    where
+      some : (k : ℕ) → thereAt (writeReasons ps room) k ≡ true → numberIn (answerBy Refused (writeReasons ps room) k (Octets (length (written ps)))) ≡ 0 → ⊥
+      some zero t z = omega (arith, z)
+      some (suc zero) t z = omega (arith, z)
+      some (suc (suc zero)) t z = omega (arith, z)
+      some (suc (suc (suc zero))) t z = omega (arith, z)
+      some (suc (suc (suc (suc zero)))) t z = omega (arith, z)
+      some (suc (suc (suc (suc (suc k))))) t z = absurd (false≢true t)
+
 -- ---- one answer, and one buffer
 pub write-one : (ps : ℕ → List ℕ) (b b₁ b₂ : List ℕ) (r q : Written) → WriteOf ps b r b₁ → WriteOf ps b q b₂ → (r ≡ q) × (b₁ ≡ b₂)
 write-one ps b b₁ b₂ r q x y = (x .answer ∙ sym (y .answer), x .buffer ∙ sym (y .buffer))
@@ -261,8 +274,8 @@ unfolding filled
 write-refused ps b b′ r x y z h e = (ap octetsIn e, h .buffer ∙ ap (λ (q : Written). filled (givenOf ps q) b) (sym (h .answer) ∙ e))
 
 -- else the listing stands at the front, and "buffer octets past the listing keep their values"
-pub write-accepted : (ps : ℕ → List ℕ) (b b′ : List ℕ) (r : Written) (n : ℕ) → WriteOf ps b r b′ → r ≡ Octets n → b′ ≡ written ps ++ drop n b
+pub write-written : (ps : ℕ → List ℕ) (b b′ : List ℕ) (r : Written) (n : ℕ) → WriteOf ps b r b′ → r ≡ Octets n → b′ ≡ written ps ++ drop n b
 unfolding filled
-write-accepted ps b b′ r n h e =
+write-written ps b b′ r n h e =
     let q : writeAnswer ps (length b) ≡ Octets n = sym (h .answer) ∙ e in
     h .buffer ∙ ap (λ (q : Written). filled (givenOf ps q) b) q ∙ ap (λ (m : ℕ). written ps ++ drop m b) (sym (octets-written ps (length b) n q))
