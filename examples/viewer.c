@@ -208,10 +208,10 @@ static int screen_of(char **words, struct screen *screen)
     return 1;
 }
 
-/* A tile row of a listing has 32 octets, so there are no more tiles than that. Where there is less memory, say so. */
+/* There are no more tiles than the listing has room for. Where there is less memory, say so. */
 static void lend_work(struct lent *lent)
 {
-    size_t wanted = DESTERLIN_WORK_FOR(lent->listing_size / 32);
+    size_t wanted = DESTERLIN_WORK_FOR(lent->listing_size / DESTERLIN_TILES_ROW);
     lent->work_size = wanted;
     while (lent->work_size > 0 && (lent->work = malloc(lent->work_size)) == NULL)
         lent->work_size /= 2;

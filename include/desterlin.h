@@ -10,10 +10,10 @@
  * - A buffer is a pointer and its number of octets. It needs no alignment. The buffers of one call do not overlap.
  *   An empty buffer (0 octets) may have any pointer, NULL too. That each pointer is good for its number of octets is
  *   the caller's part: nothing can prove it.
- * - The listing may hold any octets at all, damaged ones too. It is read and never written.
+ * - What is read, a listing or a part of one, may hold any octets at all, damaged ones too. It is never written.
  * - Nothing is kept after a call: no pointer, no octet, no memory. Calls need no opening and no closing.
  * - No call allocates, reads a file, prints or takes more than 64 KiB of stack.
- * - Calls may run at the same time in several threads; they may share a listing, not a buffer that is written.
+ * - Calls may run at the same time in several threads; they may share what is read, not a buffer that is written.
  * - Each call returns 1, or 0 where the answer buffer is shorter than the call's answer. With 0 nothing is written to
  *   any buffer, whatever else is wrong. A longer answer buffer is good: octets past the answer keep their values.
  * - An answer is little-endian words of 32 bits; desterlin_word reads them on any machine.
@@ -83,10 +83,25 @@ enum desterlin_table {
     DESTERLIN_NAME_OCTETS = 7
 };
 
+/* The octets of a row of each table, and how many rows it may have. A row of table 7 is one octet. */
+#define DESTERLIN_REFERENCE_SYSTEMS_ROW 32
+#define DESTERLIN_CONTENTS_ROW 40
+#define DESTERLIN_MATRIX_SETS_ROW 48
+#define DESTERLIN_MATRICES_ROW 64
+#define DESTERLIN_TILES_ROW 32
+#define DESTERLIN_EXTENSIONS_ROW 32
+#define DESTERLIN_REFERENCE_SYSTEMS_MOST 256
+#define DESTERLIN_CONTENTS_MOST 256
+#define DESTERLIN_MATRIX_SETS_MOST 256
+#define DESTERLIN_MATRICES_MOST 4096
+#define DESTERLIN_TILES_MOST 262144
+#define DESTERLIN_EXTENSIONS_MOST 1024
+#define DESTERLIN_NAME_OCTETS_MOST 1048576
+
 /*
- * Why a listing is turned away. The reasons are checked in this order, but for UNKNOWN_CODE, which comes first. The
- * place is a table number and a row; it is 0 0 where nothing else is said. Report gives 1 to 8, verdict 9 too, lookup
- * 10 too. Write gives 11, 5, 7, 8 and 12, and checks them in that order.
+ * Why a listing is turned away, or not written. Report gives 1 to 8, verdict 9 too, lookup 10 too, and the reasons are
+ * checked in this order, but for 9, which comes first. Write gives 11, 5, 7, 8 and 12, checked in that order. The place
+ * is a table number and a row; it is 0 0 where nothing else is said.
  */
 enum desterlin_reason {
     DESTERLIN_ACCEPTED = 0,            /* no refusal; the place is 0 0 */
@@ -191,19 +206,21 @@ enum desterlin_lookup_word {
 /*
  * Write: six row tables and the name octets, each lent as a part, become one listing.
  *
- * A part is a table's octets as they stand in a listing: whole rows, one after the other, or none at all; the last part
- * is the octets of table 7. The call lays the header, with every offset. What it writes the other calls accept, with the
- * same rows and names, and the parts of an accepted listing write back to the same octets.
+ * A part is a table's octets as they stand in a listing: whole rows (DESTERLIN_TILES_ROW octets each, and so on), one
+ * after the other, or none at all; the last part is the octets of table 7. desterlin_put_word fills a row. The header,
+ * with every count and offset, is the call's work. What it writes the other calls accept, with the same rows and names,
+ * and the parts of an accepted listing write back to the same octets.
  *
  * answer (DESTERLIN_WRITE_ANSWER octets), four words:
- *   0 number         0 written, or 11, 5, 7, 8 or 12 (enum desterlin_reason): 5, 7 and 8 as for the listing of these parts
+ *   0 number         0 written, or 11, 5, 7, 8 or 12 (enum desterlin_reason); 5, 7 and 8 as a report on the listing of
+ *                    these parts would give them
  *   1 refused table  \ place of the refusal; 0 0 where written
  *   2 refused row    /
- *   3 octets         of the listing, which is 64 and all parts; 0 where refused
+ *   3 octets         how long the listing is: the 64 of the header and those of all parts; 0 where refused
  *
- * listing: it stands at the buffer's front. Lend the other calls so many octets as word 3 says: with what follows them
- * they are no listing. Octets past them keep their values. DESTERLIN_LISTING_MOST octets have room for any listing.
- * A refused write writes nothing to the buffer.
+ * listing: the buffer that the listing is written to, from its first octet on. DESTERLIN_LISTING_MOST octets have room
+ * for any. Octets past the listing keep their values, and are not part of it: lend the other calls as many octets as
+ * word 3 says and no more. A refused write writes nothing to the buffer.
  */
 uint32_t desterlin_write(const uint8_t *references, size_t references_size,
                          const uint8_t *contents, size_t contents_size,
@@ -271,6 +288,16 @@ static inline uint32_t desterlin_word(const uint8_t *octets, size_t index)
 {
     const uint8_t *word = octets + 4 * index;
     return (uint32_t)word[0] | (uint32_t)word[1] << 8 | (uint32_t)word[2] << 16 | (uint32_t)word[3] << 24;
+}
+
+/*
+ * Puts a word where desterlin_word would read it: so the rows of a part are filled. An i64 or a double is two words,
+ * the lower half first; a text is two, its start and its length.
+ */
+static inline void desterlin_put_word(uint8_t *octets, size_t index, uint32_t word)
+{
+    for (size_t i = 0; i < 4; i++)
+        octets[4 * index + i] = (uint8_t)(word >> (8 * i));
 }
 
 struct desterlin_finding {

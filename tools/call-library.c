@@ -1,30 +1,55 @@
 /*
- * The proved library as a program: a listing of any size on standard input, its findings on standard output, in the
- * lines of the desk program ("finding CODE ROW PARTNER" with "-" for none, then "total N", or "refused NUMBER TABLE
- * ROW"), without that program's limits. gpkg-check builds and runs it.
+ * The proved library as a program, which the tools build and run. Its one word says what is asked for:
  *
- * Exit status: 0 the listing was judged or refused; 2 it could not be read, or its findings not be written.
+ *     call-library report < LISTING    the listing's findings, in the lines of the desk program ("finding CODE ROW
+ *                                      PARTNER" with "-" for none, then "total N"), without that program's limits
+ *     call-library write < PARTS       a line "written OCTETS", and then so many octets: the listing of these parts
+ *
+ * In place of either there may be the line "refused NUMBER TABLE ROW". PARTS are the sizes of the seven parts, each a
+ * little-endian number of 64 bits, and then the parts, one after the other.
+ *
+ * Exit status: 0 there is an answer, or a refusal; 2 there is none, since something could not be read or written.
  */
 #include <inttypes.h>
 #include <stdio.h>
 #include <stdlib.h>
+#include <string.h>
 
 #include "desterlin.h"
 
-enum { JUDGED = 0, FAILED = 2 };
+enum { ANSWERED = 0, FAILED = 2 };
 
 /* Room for the findings of an ordinary pack; one with more of them is judged a second time. */
 enum { ORDINARY = 4096 * DESTERLIN_FINDING };
+
+enum { PARTS = 7 };
+
+struct part {
+    uint8_t *octets;
+    size_t size;
+};
 
 /* One octet more than the most has a listing refused as too long, however long it is. */
 static uint8_t listing[DESTERLIN_LISTING_MOST + 1];
 static uint8_t work[DESTERLIN_WORK_FULL];
 static uint8_t ordinary[ORDINARY];
+static struct part parts[PARTS];
 
 static int failed(const char *words)
 {
     fprintf(stderr, "call-library: %s\n", words);
     return FAILED;
+}
+
+/* Prints the refusal of an answer that has one: its table and row stand behind its number, whose place is given. */
+static int print_if_refused(const uint8_t *answer, size_t place)
+{
+    uint32_t number = desterlin_word(answer, place);
+    if (number == DESTERLIN_ACCEPTED)
+        return 0;
+    printf("refused %" PRIu32 " %" PRIu32 " %" PRIu32 "\n", number,
+           desterlin_word(answer, place + 1), desterlin_word(answer, place + 2));
+    return 1;
 }
 
 static void print_row(uint32_t row, char after)
@@ -45,18 +70,16 @@ static void print_findings(const uint8_t *findings, uint32_t written)
     }
 }
 
-static int print_report(size_t size)
+static int report(void)
 {
+    size_t size = fread(listing, 1, sizeof listing, stdin);
+    if (ferror(stdin))
+        return failed("the listing cannot be read");
     uint8_t answer[DESTERLIN_REPORT_ANSWER];
     uint8_t *findings = ordinary;
     desterlin_report(listing, size, ordinary, sizeof ordinary, work, sizeof work, answer, sizeof answer);
-    uint32_t number = desterlin_word(answer, DESTERLIN_REPORT_NUMBER);
-    if (number != DESTERLIN_ACCEPTED) {
-        printf("refused %" PRIu32 " %" PRIu32 " %" PRIu32 "\n", number,
-               desterlin_word(answer, DESTERLIN_REPORT_REFUSED_TABLE),
-               desterlin_word(answer, DESTERLIN_REPORT_REFUSED_ROW));
-        return JUDGED;
-    }
+    if (print_if_refused(answer, DESTERLIN_REPORT_NUMBER))
+        return ANSWERED;
     uint32_t total = desterlin_word(answer, DESTERLIN_REPORT_TOTAL);
     if (desterlin_word(answer, DESTERLIN_REPORT_WRITTEN) < total) {
         size_t findings_size = (size_t)total * DESTERLIN_FINDING;
@@ -69,16 +92,62 @@ static int print_report(size_t size)
     printf("total %" PRIu32 "\n", total);
     if (findings != ordinary)
         free(findings);
-    return JUDGED;
+    return ANSWERED;
 }
 
-int main(void)
+/* A part may be of any size: whether a listing can carry it is for the library to say. */
+static int read_part(struct part *part, uint64_t size)
 {
-    size_t size = fread(listing, 1, sizeof listing, stdin);
-    if (ferror(stdin))
-        return failed("the listing cannot be read");
-    int status = print_report(size);
+    if (size == 0)
+        return ANSWERED;
+    part->size = (size_t)size;
+    part->octets = part->size == size ? malloc(part->size) : NULL;
+    if (part->octets == NULL)
+        return failed("no memory for the parts");
+    if (fread(part->octets, 1, part->size, stdin) != part->size)
+        return failed("the parts break off, or cannot be read");
+    return ANSWERED;
+}
+
+static int read_parts(void)
+{
+    uint8_t sizes[8 * PARTS];
+    if (fread(sizes, 1, sizeof sizes, stdin) != sizeof sizes)
+        return failed("the sizes of the parts break off, or cannot be read");
+    for (size_t i = 0; i < PARTS; i++) {
+        uint64_t size = desterlin_word(sizes, 2 * i) | (uint64_t)desterlin_word(sizes, 2 * i + 1) << 32;
+        if (read_part(&parts[i], size) != ANSWERED)
+            return FAILED;
+    }
+    return getchar() == EOF ? ANSWERED : failed("there are more octets than the parts have");
+}
+
+static int write_listing(void)
+{
+    if (read_parts() != ANSWERED)
+        return FAILED;
+    uint8_t answer[DESTERLIN_WRITE_ANSWER];
+    desterlin_write(parts[0].octets, parts[0].size, parts[1].octets, parts[1].size, parts[2].octets, parts[2].size,
+                    parts[3].octets, parts[3].size, parts[4].octets, parts[4].size, parts[5].octets, parts[5].size,
+                    parts[6].octets, parts[6].size, listing, sizeof listing, answer, sizeof answer);
+    if (print_if_refused(answer, DESTERLIN_WRITE_NUMBER))
+        return ANSWERED;
+    uint32_t octets = desterlin_word(answer, DESTERLIN_WRITE_OCTETS);
+    printf("written %" PRIu32 "\n", octets);
+    fwrite(listing, 1, octets, stdout);
+    return ANSWERED;
+}
+
+int main(int count, char **words)
+{
+    int status;
+    if (count == 2 && strcmp(words[1], "report") == 0)
+        status = report();
+    else if (count == 2 && strcmp(words[1], "write") == 0)
+        status = write_listing();
+    else
+        status = failed("say what is asked for: report or write");
     if (fflush(stdout) != 0 || ferror(stdout))
-        return failed("the findings cannot be written");
+        return failed("the answer cannot be written");
     return status;
 }

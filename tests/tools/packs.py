@@ -10,6 +10,7 @@ import io
 import os
 import shutil
 import sqlite3
+import struct
 import subprocess
 import sys
 import tempfile
@@ -26,7 +27,7 @@ SECOND = ROOT / "tests" / "second" / "target" / "release" / "second"
 sys.dont_write_bytecode = True
 sys.path.insert(0, str(TOOLS))
 
-from desterlin.geopackage import export
+from desterlin.exporter import export
 
 Cells = Tuple[object, ...]
 Rows = Dict[str, List[Cells]]
@@ -115,6 +116,11 @@ def judged_by_second(listing: bytes) -> str:
     return Ran([SECOND, "judge"], listing).out
 
 
+def framed(parts: Sequence[bytes]) -> bytes:
+    """The parts of a listing as tools/call-library.c takes them."""
+    return struct.pack("<7Q", *map(len, parts)) + b"".join(parts)
+
+
 def has_library() -> bool:
     """Whether the proved library is there to be tested: tests/tools/run has built it, unless its crate is not written
     yet."""
@@ -138,7 +144,7 @@ class InRoom(unittest.TestCase):
         return make_pack(self.room / "pack.gpkg", rows, *statements)
 
     def listing_of(self, pack: Path) -> bytes:
-        """The listing of a pack that has one, without the time that a program takes to start."""
+        """The listing of a pack that has one, without the time that Python takes to start."""
         return export(str(pack), lambda words: None).octets
 
     def found_in(self, rows: Rows, *statements: str) -> List[str]:

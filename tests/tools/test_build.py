@@ -1,4 +1,4 @@
-"""gpkg-check in a checkout where something has still to be built, or where nothing may be written."""
+"""The tools in a checkout where something has still to be built, or where nothing may be written."""
 
 from __future__ import annotations
 
@@ -17,6 +17,10 @@ from desterlin import library
 
 # The valley has one finding, for which the status is 1.
 PRINTED = (PACKS / "valley.printed").read_text(encoding="utf-8")
+
+# The library is made of all crates but the two programs.
+CRATES = [line for line in (ROOT / "crates.txt").read_text(encoding="utf-8").splitlines() if line[0] != "#"]
+PARTS = len(CRATES) - 2
 
 # It stands in for the kit's rt: what it is asked for, but for the kit's place, it writes down.
 STAND_IN = """\
@@ -37,7 +41,7 @@ FAILS = "echo 'rt: octets proved (15 s)' >&2; echo 'rt: index NOT PROVED (exit 1
 
 @needs_library
 class Checkout(InRoom):
-    """A checkout of its own, with what gpkg-check needs of this one."""
+    """A checkout of its own, with what the tools need of this one."""
 
     def setUp(self) -> None:
         super().setUp()
@@ -108,8 +112,8 @@ class FirstCheck(Checkout):
         os.close(ours)
         self.assertEqual((ran.returncode, ran.stdout.decode("utf-8")), (1, PRINTED))
         self.assertIn("\rgpkg-check: the proved library is not built yet; ", said)
-        self.assertIn("\r1 of 13 parts proved: octets", said)
-        self.assertIn("\r2 of 13 parts proved: doubles", said)
+        self.assertIn(f"\r1 of {PARTS} parts proved: octets", said)
+        self.assertIn(f"\r2 of {PARTS} parts proved: doubles", said)
 
     def test_of_two_at_once_one_builds(self) -> None:
         self.builds(seconds=1)
@@ -152,6 +156,47 @@ class FirstCheck(Checkout):
         crate.parent.mkdir()
         crate.touch()
         self.assertEqual(self.check().returncode, 1)
+        self.assertEqual(self.asked_for(), [])
+
+
+    def test_an_archive_that_lacks_a_call_is_told_to_be_an_old_one(self) -> None:
+        built = self.checkout / "target" / "staticlib"
+        built.mkdir(parents=True)
+        (built / "libdesterlin.a").write_bytes(b"!<arch>\n")
+        ran = self.check()
+        self.assertEqual((ran.returncode, ran.stdout), (2, ""))
+        self.assertIn("gpkg-check: call-library.c cannot be compiled: ", ran.stderr)
+        told = "the archive lacks a call of desterlin.h, so it is an old one; build it anew with:  "
+        self.assertTrue(ran.stderr.endswith(f"{told}cd {self.checkout} && rt staticlib desterlin\n"), ran.stderr)
+
+
+class FirstListing(Checkout):
+    """gpkg-listing has its listing written by the library, and builds that too."""
+
+    def list(self, *words: str) -> "subprocess.CompletedProcess[str]":
+        return self.run_it([sys.executable, "tools/gpkg-listing", *words, str(self.room / "out.listing")])
+
+    def test_builds_and_goes_on(self) -> None:
+        self.builds()
+        said = "gpkg-listing: the proved library is not built yet; rt staticlib desterlin takes some minutes\n"
+        for told in [said, ""]:
+            ran = self.list("samples/packs/valley.gpkg")
+            self.assertEqual((ran.returncode, ran.stderr), (0, told))
+            self.assertEqual((self.room / "out.listing").read_bytes(), (PACKS / "valley.listing").read_bytes())
+        self.assertEqual(self.asked_for(), ["staticlib desterlin"])
+
+    def test_unless_told_not_to(self) -> None:
+        self.builds()
+        ran = self.list("--no-build", "samples/packs/valley.gpkg")
+        self.assertEqual((ran.returncode, ran.stdout), (2, ""))
+        self.assertIn("gpkg-listing: the proved library is not built: there is no ", ran.stderr)
+        self.assertEqual((self.asked_for(), (self.room / "out.listing").exists()), ([], False))
+
+    def test_a_pack_without_a_listing_is_told_before_that(self) -> None:
+        self.builds()
+        ran = self.list("crates.txt")
+        self.assertEqual((ran.returncode, ran.stdout), (2, ""))
+        self.assertEqual(ran.stderr, "gpkg-listing: crates.txt: this is no SQLite file, so no GeoPackage\n")
         self.assertEqual(self.asked_for(), [])
 
 

@@ -10,10 +10,10 @@ import unittest
 from pathlib import Path
 from typing import List, Tuple
 
-from packs import ROOT, SECOND, InRoom, Ran, judged_by_second, needs_library
+from packs import ROOT, SECOND, InRoom, Ran, framed, judged_by_second, needs_library
 
 from desterlin import library
-from desterlin.listing import CONTENTS, MATRICES, SETS, TILES
+from desterlin.listing import CONTENTS, LISTING_MOST, MATRICES, NAMES_MOST, SETS, TABLES, TILES, Listing
 from desterlin.rules import RULES
 
 TESTS = ROOT / "tests" / "tools"
@@ -27,12 +27,13 @@ int main(void) { return work[0]; }
 """
 
 # The sum of the header's code, without comments, in each version.
-COMPILED = {1: "e12eb21fc7902aa5"}
+COMPILED = {1: "e12eb21fc7902aa5", 2: "a8f623c6b065515a"}
 
 ANSWERS = {
     "report": ["number", "refused table", "refused row", "total", "written"],
     "verdict": ["ruling", "first row", "number", "refused table", "refused row"],
     "lookup": ["tile", "number", "refused table", "refused row"],
+    "write": ["number", "refused table", "refused row", "octets"],
 }
 
 
@@ -57,7 +58,7 @@ class Header(unittest.TestCase):
         self.assertEqual({name for name in names if not name.startswith("DESTERLIN_")}, set())
         text = (ROOT / "include" / "desterlin.h").read_text(encoding="utf-8")
         code = re.sub(r"/\*.*?\*/", "", text, flags=re.S)
-        declared = re.findall(r"^(?:static inline )?(?:uint32_t|struct \w+) (\w+)\(", code, re.M)
+        declared = re.findall(r"^(?:static inline )?(?:uint32_t|void|struct \w+) (\w+)\(", code, re.M)
         declared += re.findall(r"^(?:enum|struct) (\w+)", code, re.M)
         declared += re.findall(r"^    (\w+) = \d+,?\s*$", code, re.M)
         self.assertGreater(len(declared), 40)
@@ -76,6 +77,26 @@ class Header(unittest.TestCase):
             self.assertEqual(re.findall(r"^ \*   (\d) ([a-z ]+?)  ", told, re.M), list(zip("01234", words)))
             row = re.findall(rf"^\| {call} \| {4 * len(words)} octets \| (.*) \|$", page, re.M)
             self.assertEqual([re.sub(r" \(.*?\)", "", line).split(", ") for line in row], [words])
+
+    def test_the_calls_are_declared_alike_in_the_page(self) -> None:
+        pattern = r"^uint32_t desterlin_\w+ *\([^)]*\);"
+        header, page = (
+            [re.sub(r"\s+", "", call) for call in re.findall(pattern, (ROOT / name).read_text(encoding="utf-8"), re.M)]
+            for name in ["include/desterlin.h", "docs/API.md"]
+        )
+        self.assertEqual((len(header), header), (len(ANSWERS), page))
+
+    def test_rows_are_of_the_size_that_they_are(self) -> None:
+        """The tools' tables are those of docs/LISTING.md, as test_words.py sees."""
+        text = (ROOT / "include" / "desterlin.h").read_text(encoding="utf-8")
+        defined = re.findall(r"^#define DESTERLIN_(\w+_(?:ROW|MOST)) (\d+)$", text, re.M)
+        told = {"NAME_OCTETS_MOST": NAMES_MOST, "LISTING_MOST": LISTING_MOST}
+        for table in TABLES:
+            name = table.title.upper().replace(" ", "_")
+            self.assertIn(f"DESTERLIN_{name} = {table.number},", text)
+            told.update({f"{name}_ROW": table.form.size, f"{name}_MOST": table.most})
+        self.assertEqual({name: int(number) for name, number in defined}, told)
+        self.assertEqual(LISTING_MOST, 64 + NAMES_MOST + sum(table.form.size * table.most for table in TABLES))
 
     def test_what_nobody_would_guess_is_told(self) -> None:
         told = self.told()
@@ -305,15 +326,52 @@ class Viewer(InRoom):
 
 @needs_library
 class CallLibrary(unittest.TestCase):
-    def test_under_the_sanitizers_it_prints_what_the_second_program_does(self) -> None:
+    """tools/call-library.c under the sanitizers."""
+
+    @classmethod
+    def setUpClass(cls) -> None:
         os.environ["ASAN_OPTIONS"] = "detect_leaks=0"
         ran = Ran([TESTS / "cc-sanitized", ROOT / "tools" / "call-library.c", "-o", BUILT / "call-library"])
-        self.assertEqual((ran.status, ran.err), (0, ""))
-        listings = [path.read_bytes() for path in sorted(SAMPLES.glob("*.listing"))]
-        for listing in [*listings, Ran([SECOND, "full", "pyramids", 262_144]).octets]:
-            ran = Ran([BUILT / "call-library"], listing)
+        if ran.status != 0:
+            raise AssertionError(ran.err)
+
+    def listings(self) -> List[bytes]:
+        small = [path.read_bytes() for path in sorted(SAMPLES.glob("*.listing"))]
+        return [*small, Ran([SECOND, "full", "pyramids", 262_144]).octets]
+
+    def test_it_prints_what_the_second_program_does(self) -> None:
+        for listing in self.listings():
+            ran = Ran([BUILT / "call-library", "report"], listing)
             self.assertEqual((ran.status, ran.err), (0, ""))
             self.assertEqual(ran.out, judged_by_second(listing))
+
+    def test_it_writes_what_it_was_lent(self) -> None:
+        for listing in self.listings():
+            if not judged_by_second(listing).startswith("refused"):
+                rows = Listing(listing)
+                ran = Ran([BUILT / "call-library", "write"], framed([*rows.octets.values(), rows.names]))
+                self.assertEqual((ran.status, ran.err), (0, ""))
+                self.assertTrue(ran.octets == b"written %d\n" % len(listing) + listing, "other octets are written")
+
+
+@needs_library
+class Page(unittest.TestCase):
+    def test_what_it_has_in_c_does_what_it_says(self) -> None:
+        page = (ROOT / "docs" / "API.md").read_text(encoding="utf-8").split("## Write")[1]
+        code = page.split("```c\n")[1].split("```")[0]
+        prints = 'printf("%u %u\\n", (unsigned)number, (unsigned)octets); fwrite(listing, 1, octets, stdout);'
+        source = f'#include <stdio.h>\n#include "desterlin.h"\nint main(void) {{\n{code}{prints} return 0; }}\n'
+        compiler = os.environ.get("DESTERLIN_CC") or ROOT / "tools" / "cc-x86-64"
+        flags = ["-std=c99", "-pedantic", "-Wall", "-Wextra", "-Werror", f"-I{ROOT / 'include'}"]
+        BUILT.mkdir(parents=True, exist_ok=True)
+        linked: "List[object]" = ["-x", "c", "-", "-x", "none", library.archive(), "-o", BUILT / "page"]
+        ran = Ran([compiler, *flags, *linked], source.encode())
+        self.assertEqual((ran.status, ran.err), (0, ""))
+        ran = Ran([BUILT / "page"])
+        line, _, listing = ran.octets.partition(b"\n")
+        self.assertEqual((ran.status, line, len(listing)), (0, b"0 100", 100))
+        # The one reference system is good; two others are missing, and so are contents.
+        self.assertEqual(judged_by_second(listing), "finding 112 - -\nfinding 113 - -\nfinding 171 - -\ntotal 3\n")
 
 
 @needs_library

@@ -272,10 +272,10 @@ class Listings(InRoom):
 
 @needs_library
 class CallLibrary(InRoom):
-    """tools/call-library.c prints what the second program does."""
+    """tools/call-library.c with the word report prints what the second program does; test_write.py has the other."""
 
     def same(self, listing: bytes) -> None:
-        ran = Ran([library.program()], listing)
+        ran = Ran([library.program(), "report"], listing)
         self.assertEqual((ran.status, ran.err), (0, ""))
         self.assertEqual(ran.out, judged_by_second(listing))
 

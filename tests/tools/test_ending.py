@@ -54,6 +54,7 @@ class StandardOutput(InRoom):
         self.assertIn("541  two tiles at one address", ran.err)
         self.assertIn("gpkg-check: standard output cannot be written: No space left on device\n", ran.err)
 
+    @needs_library
     def test_a_reader_of_a_listing_who_has_seen_enough(self) -> None:
         tiles = "WITH RECURSIVE n(i) AS (SELECT 0 UNION ALL SELECT i + 1 FROM n LIMIT 20000)"
         pack = self.pack(good(), f"INSERT INTO farm {tiles} SELECT 1, i, 0 FROM n")

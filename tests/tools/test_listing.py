@@ -11,12 +11,13 @@ from pathlib import Path
 from typing import List, Tuple
 from unittest import mock
 
-from packs import ADDRESS, DATE, PACKS, TOOLS, InRoom, Ran, Rows, good, judged_by_second, make_pack
+from packs import ADDRESS, DATE, PACKS, TOOLS, InRoom, Ran, Rows, good, judged_by_second, make_pack, needs_library
 
 from desterlin.console import Trouble
 from desterlin.listing import Draft, Listing
 
 
+@needs_library
 class SamplePacks(InRoom):
     def test_findings_are_the_planted_ones(self) -> None:
         for name, printed in {"valley": "finding 541 16 4\ntotal 1\n", "meadow": "total 0\n"}.items():
@@ -122,6 +123,7 @@ def planted(changes: "List[Change]") -> Rows:
     return rows
 
 
+@needs_library
 class PlantedFaults(InRoom):
     def test_each_is_carried_and_found(self) -> None:
         for number, (name, changes, expected) in enumerate(PLANTED):
@@ -137,6 +139,7 @@ class PlantedFaults(InRoom):
         self.assertEqual(found, set(RULES))
 
 
+@needs_library
 class Order(InRoom):
     """A doubled address shows in which order the rows came."""
 
@@ -206,6 +209,7 @@ class Order(InRoom):
         self.assertEqual(names, [b"farm"] * 3 + [b"brook", b"alps"])
 
 
+@needs_library
 class Names(InRoom):
     def test_awkward_ones_are_read(self) -> None:
         for number, name in enumerate(['say "moo"', "a;b--c", "it's", "hügel 山", "main.x", "select", "[x]", "`"]):
@@ -252,6 +256,7 @@ class Names(InRoom):
         self.assertEqual(Listing(self.listing_of(pack)).extensions()[0].scope, b"read-\xff\0")
 
 
+@needs_library
 class Numbers(InRoom):
     def test_extremes_are_carried(self) -> None:
         least, most = -(2**63), 2**63 - 1
@@ -270,6 +275,7 @@ class Numbers(InRoom):
         self.assertEqual(struct.unpack_from("<qII", listing, start + 24), (0, 0, 0))
 
 
+@needs_library
 class WhatMayBeMissing(InRoom):
     def test_extensions(self) -> None:
         rows = good()
@@ -281,6 +287,7 @@ class WhatMayBeMissing(InRoom):
         self.assertEqual(self.found_in(rows), ["total 0"])
 
 
+@needs_library
 class Fullness(InRoom):
     """The most that a listing carries is still carried; test_trouble.py has one more of each."""
 
@@ -303,6 +310,7 @@ class Fullness(InRoom):
         self.assertEqual(self.found_in(rows), ["total 0"])
 
 
+@needs_library
 class Writing(InRoom):
     def test_out_is_replaced_and_nothing_else_is_there(self) -> None:
         pack, out = self.pack(good()), self.room / "out.listing"

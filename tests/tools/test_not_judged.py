@@ -95,6 +95,7 @@ class PartsOfAPack(InRoom):
             self.assertEqual(json.loads(Called(GPKG_CHECK, "--json", PACKS / f"{name}.gpkg").out)["not_judged"], [])
 
 
+@needs_library
 class PartsOfAListing(InRoom):
     def test_gpkg_listing_says_what_is_left_out(self) -> None:
         rows = good()

@@ -1,4 +1,4 @@
-"""The picture of the levels, from what the second program finds: no library is needed for it."""
+"""The picture of the levels, from what the second program finds in listings of packs."""
 
 from __future__ import annotations
 
@@ -8,7 +8,7 @@ import xml.dom.minidom
 from pathlib import Path
 from typing import List, Tuple
 
-from packs import PACKS, InRoom, good
+from packs import PACKS, InRoom, good, needs_library
 from test_listing import FARM, MATRICES, Change, planted
 from test_words import findings_in
 
@@ -16,6 +16,7 @@ from desterlin import picture
 from desterlin.listing import Listing
 
 
+@needs_library
 class Drawing(InRoom):
     def drawn_of(self, pack: Path) -> str:
         listing = self.listing_of(pack)

@@ -10,8 +10,11 @@ import unittest
 from pathlib import Path
 from typing import Callable, Dict, Iterator, List, Tuple
 
-from packs import DATE, PACKS, TOOLS, InRoom, Ran, good, make_pack
+from packs import DATE, PACKS, TOOLS, InRoom, Ran, good, make_pack, needs_library
 from test_listing import CONTENTS, EXTENSIONS, FARM, MATRICES, SETS, SRS, planted, view_of_tiles
+
+from desterlin import library
+from desterlin.console import Trouble
 
 # Each case: the table, the row, the cells that it gets, what the message calls the wrong one, and what it asks for.
 WHOLE, NUMBER, TEXT = "a whole number", "a number", "a text"
@@ -193,6 +196,7 @@ class MissingParts(InRoom):
         self.assertIn('view "farm": cannot be read (SQLite: no such function: flip)', self.trouble_with(pack))
 
 
+@needs_library
 class Files(InRoom):
     def test_not_there(self) -> None:
         self.assertIn("cannot be read: No such file or directory", self.trouble_with(self.room / "nothing.gpkg"))
@@ -237,8 +241,6 @@ class Files(InRoom):
         self.assertLessEqual(messages, {"damaged", "listed", "unfit"})
 
     def in_words(self, path: Path) -> str:
-        from desterlin.console import Trouble
-
         try:
             self.listing_of(path)
         except Trouble as trouble:
@@ -288,8 +290,14 @@ def as_nobody() -> Iterator[None]:
             os.seteuid(0)
 
 
+@needs_library
 class Out(InRoom):
     """The place that the listing is written to."""
+
+    @classmethod
+    def setUpClass(cls) -> None:
+        # Who may write nowhere, or only empty files, cannot compile it.
+        library.program()
 
     def test_folder_that_is_not_there(self) -> None:
         said = self.trouble_with(self.pack(good()), self.room / "none" / "out")

@@ -3,15 +3,16 @@
 from __future__ import annotations
 
 import sys
-from bisect import bisect_right
-from typing import Callable, Dict, List, NamedTuple, Optional
+from typing import Callable, Dict, List, NamedTuple
 
-from . import geopackage, library
+from . import library
 from .console import CLEAN, FINDINGS, Trouble, counted, told, trouble_with
+from .exporter import Exported, export
 from .files import start_of
-from .listing import LISTING_MOST, TABLES, Listing, Table
-from .rules import REASONS, Finding
-
+from .geopackage import MAGIC, Origins
+from .listing import LISTING_MOST, Listing
+from .rules import Finding, Refusal
+from .words import refusal_words
 
 # In the place of a path.
 STANDARD_INPUT = "standard input"
@@ -21,22 +22,13 @@ class Judged(NamedTuple):
     path: str
     listing: Listing
     findings: List[Finding]
-    sources: Dict[Table, List[geopackage.Source]]
-    firsts: Dict[Table, List[int]]
+    origins: Origins
     not_judged: List[str]
 
     @property
     def status(self) -> int:
         """What could not be judged is not called clean."""
         return FINDINGS if self.findings or self.not_judged else CLEAN
-
-    def origin(self, table: Table, row: int) -> Optional[str]:
-        """Where a row stands in the pack; nowhere, if a listing was judged."""
-        sources = self.sources.get(table)
-        if not sources:
-            return None
-        # The last that begins at the row or before it; a pack may have thousands of tables with tiles.
-        return sources[bisect_right(self.firsts[table], row) - 1].origin(row)
 
     def tally(self) -> Dict[int, int]:
         """The number of findings of each code that has any."""
@@ -47,7 +39,7 @@ class Judged(NamedTuple):
 
 
 def check_pack(path: str, say: Callable[[str], None]) -> Judged:
-    return accepted(path, geopackage.export(path, say), say)
+    return accepted(path, export(path, say), say)
 
 
 def check_listing(path: str, say: Callable[[str], None]) -> Judged:
@@ -57,9 +49,9 @@ def check_listing(path: str, say: Callable[[str], None]) -> Judged:
         path, octets = STANDARD_INPUT, standard_input(most)
     else:
         octets = start_of(path, most)
-    if octets.startswith(geopackage.MAGIC):
+    if octets.startswith(MAGIC):
         raise trouble_with(path, "this is a pack, and no listing of one; it is checked without --listing")
-    return accepted(path, geopackage.Exported(octets, {}, []), say)
+    return accepted(path, Exported(octets, Origins({}), []), say)
 
 
 def standard_input(most: int) -> bytes:
@@ -71,18 +63,9 @@ def standard_input(most: int) -> bytes:
         raise Trouble(f"standard input cannot be read: {told(error)}") from error
 
 
-def accepted(path: str, exported: geopackage.Exported, say: Callable[[str], None]) -> Judged:
+def accepted(path: str, exported: Exported, say: Callable[[str], None]) -> Judged:
     say(f"judging {counted(len(exported.octets), 'octet')}")
     answer = library.judged(exported.octets)
-    if isinstance(answer, library.Refusal):
-        raise trouble_with(path, refusal_words(answer))
-    firsts = {table: [source.first for source in sources] for table, sources in exported.sources.items()}
-    return Judged(path, Listing(exported.octets), answer, exported.sources, firsts, exported.not_judged)
-
-
-def refusal_words(refusal: library.Refusal) -> str:
-    place = ""
-    if refusal.table != 0:
-        titles = {table.number: table.title for table in TABLES}
-        place = f" (table {refusal.table}, {titles.get(refusal.table, 'name octets')}, row {refusal.row})"
-    return f"the listing is refused, reason {refusal.number}: {REASONS[refusal.number]}{place}"
+    if isinstance(answer, Refusal):
+        raise trouble_with(path, f"the listing is refused, {refusal_words(answer, exported.origins.of)}")
+    return Judged(path, Listing(exported.octets), answer, exported.origins, exported.not_judged)

@@ -16,6 +16,9 @@ INTERRUPTED, BROKEN_PIPE = 130, 141
 
 LONGEST_SHOWN = 80
 
+# The tool that speaks: what is said on standard error begins with its name.
+speaker = "desterlin"
+
 # Where it is set, an error of a tool itself is shown with the place in the code.
 TRACEBACK = "DESTERLIN_TRACEBACK"
 
@@ -119,6 +122,8 @@ class Progress:
 
 def run(tool: str, act: Callable[[Progress], int]) -> int:
     """Has a tool act, and gives its exit status: 0 and 1 are what it says itself, and nothing else ends so."""
+    global speaker
+    speaker = tool
     if sys.stderr is None:
         # print would send to standard output what is meant for standard error.
         sys.stderr = open(os.devnull, "w", encoding="utf-8")
@@ -139,7 +144,7 @@ def run(tool: str, act: Callable[[Progress], int]) -> int:
     except Exception as error:
         progress.clear()
         words = str(error) if isinstance(error, Trouble) else unforeseen(error)
-        complain(tool, words.splitlines())
+        complain(words.splitlines())
         return UNUSABLE
 
 
@@ -174,13 +179,13 @@ def silence(stream: TextIO) -> None:
         os.dup2(os.open(os.devnull, os.O_WRONLY), stream.fileno())
 
 
-def complain(tool: str, lines: Iterable[str]) -> None:
-    """Lines for standard error; where that fails, the exit status has to do."""
+def complain(lines: Iterable[str]) -> None:
+    """Lines for standard error, each with the tool's name; where that fails, the exit status has to do."""
     if sys.stderr is None:
         return
     try:
         for line in lines:
-            print(f"{tool}: {plain(line)}", file=sys.stderr)
+            print(f"{speaker}: {plain(line)}", file=sys.stderr)
         sys.stderr.flush()
     except OSError:
         silence(sys.stderr)
@@ -200,5 +205,5 @@ def ended(kind: type, error: BaseException, where: object) -> None:
     """In the place of sys.excepthook: what goes wrong before a tool acts, as where Python has no SQLite."""
     if kind is KeyboardInterrupt:
         sys.exit(INTERRUPTED)
-    complain("desterlin", [unforeseen(error)])
+    complain([unforeseen(error)])
     sys.exit(UNUSABLE)

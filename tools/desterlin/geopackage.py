@@ -1,4 +1,4 @@
-"""A GeoPackage's rows as a listing, with a note of where each row came from, and of what is left out.
+"""A GeoPackage's rows as the parts of a listing, with a note of where each row came from, and of what is left out.
 
 What a listing cannot carry is Trouble, told with its table and row, all of it at once. Nothing is mended on the way: a
 mended pack would be judged in the place of the one that is shipped.
@@ -12,6 +12,7 @@ import shutil
 import sqlite3
 import tempfile
 import urllib.parse
+from bisect import bisect_right
 from typing import Callable, Dict, Iterator, List, NamedTuple, Optional, Sequence, Set, Tuple
 
 from . import listing
@@ -86,9 +87,23 @@ class Source(NamedTuple):
         return f"{self.relation.words()} {place}{self.keyed_by} {key}"
 
 
-class Exported(NamedTuple):
-    octets: bytes
-    sources: Dict[Table, List[Source]]
+class Origins:
+    """Where each row of a listing stands in the pack; nowhere, where no pack was read."""
+
+    def __init__(self, sources: Dict[Table, List[Source]]) -> None:
+        self.sources = sources
+        self.firsts = {table: [source.first for source in found] for table, found in sources.items()}
+
+    def of(self, table: Table, row: int) -> Optional[str]:
+        if not self.sources.get(table):
+            return None
+        # The last that begins at the row or before it; a pack may have thousands of tables with tiles.
+        return self.sources[table][bisect_right(self.firsts[table], row) - 1].origin(row)
+
+
+class PackRows(NamedTuple):
+    parts: List[bytes]
+    origins: Origins
     not_judged: List[str]
 
 
@@ -114,8 +129,8 @@ class Complaints:
         return [*self.first, f"and {self.more:,} more {self.kind}"] if self.more else self.first
 
 
-def export(path: str, say: Callable[[str], None]) -> Exported:
-    """The listing of a pack; `say` is told how far the reading has come."""
+def rows_of(path: str, say: Callable[[str], None]) -> PackRows:
+    """The rows of a pack; `say` is told how far the reading has come."""
     start = start_of(path, 100)
     if not start.startswith(MAGIC):
         raise trouble_with(path, "this is no SQLite file, so no GeoPackage")
@@ -123,7 +138,7 @@ def export(path: str, say: Callable[[str], None]) -> Exported:
     uses_wal = start[19:20] == b"\2"
     try:
         with address_of(path, uses_wal, say) as address, contextlib.closing(opened(address)) as connection:
-            return Export(path, connection, say).exported()
+            return Reading(path, connection, say).rows()
     except SQLITE_ERRORS as error:
         raise trouble_with(path, words_of_sqlite(error)) from error
 
@@ -268,7 +283,7 @@ def stand_in(field: Field) -> Value:
     return b"" if field.kind in (Kind.TEXT, Kind.TEXT_OR_NULL) else 0
 
 
-class Export:
+class Reading:
     """One pass over a pack."""
 
     def __init__(self, path: str, connection: sqlite3.Connection, say: Callable[[str], None]) -> None:
@@ -283,10 +298,10 @@ class Export:
         rows = connection.execute("SELECT type, name FROM sqlite_master WHERE type IN ('table', 'view')")
         self.relations = {without_case(name): Relation(bytes(name), kind == b"view") for kind, name in rows}
 
-    def exported(self) -> Exported:
+    def rows(self) -> PackRows:
         self.add_metadata(listing.REFERENCES, needed_by="a GeoPackage has one")
         self.add_metadata(listing.CONTENTS, needed_by="a GeoPackage has one")
-        has_tiles = any(row.data_type == b"tiles" for row in self.so_far().contents())
+        has_tiles = any(row.data_type == b"tiles" for row in self.draft.rows().contents())
         needed_by = "gpkg_contents names tiles" if has_tiles else None
         self.add_metadata(listing.SETS, needed_by)
         self.add_metadata(listing.MATRICES, needed_by)
@@ -299,13 +314,10 @@ class Export:
             lines.append("it has no listing, so nothing was judged")
             raise trouble_with(self.path, *lines)
         self.note_unnamed(set(map(without_case, names)))
-        return Exported(self.draft.listing(), self.sources, self.not_judged)
+        return PackRows(self.draft.parts(), Origins(self.sources), self.not_judged)
 
     def is_hindered(self) -> bool:
         return bool(self.bad_tables.first or self.bad_cells.first)
-
-    def so_far(self) -> listing.Listing:
-        return listing.Listing(self.draft.listing())
 
     def add_metadata(self, table: Table, needed_by: Optional[str]) -> None:
         """The rows of a table whose name begins with gpkg_. One that nothing needs may be missing: it has no rows."""
@@ -320,7 +332,7 @@ class Export:
     def tile_names(self) -> List[bytes]:
         """The tables whose tiles are listed: those that are named in contents as tiles, in a matrix set or in a
         matrix, in that order. One that is named in several letter cases is listed once, as it is first spelled."""
-        rows = self.so_far()
+        rows = self.draft.rows()
         names = [row.table_name for row in rows.contents() if row.data_type == b"tiles"]
         names += [row.table_name for row in rows.sets()]
         names += [row.table_name for row in rows.matrices()]

@@ -8,14 +8,14 @@ import hashlib
 import os
 import re
 import shlex
+import struct
 import subprocess
-import sys
 import tempfile
 from pathlib import Path
-from typing import Iterator, List, NamedTuple, Optional, Set, Union
+from typing import Iterator, List, Optional, Sequence, Set, Union
 
-from .console import Progress, Trouble, told
-from .rules import Finding
+from .console import Progress, Trouble, complain, counted, told
+from .rules import Finding, Refusal
 
 ROOT = Path(__file__).resolve().parents[2]
 SOURCE = ROOT / "tools" / "call-library.c"
@@ -28,35 +28,63 @@ FLAGS = ["-std=c99", "-O2", "-Wall", "-Wextra", "-Werror", f"-I{HEADER.parent}"]
 # So much of what a failed build has said is told, where it does not say what is not proved.
 LAST_LINES = 5
 
+# What the tools say of the library in their help.
+HELP = f"""\
+The proved library is built where it is missing, which takes some minutes, as by:  {shlex.join(BUILD)}
+DESTERLIN_LIBRARY may name another archive of it than {ARCHIVE.relative_to(ROOT)}.
+"""
+NO_BUILD_HELP = "do not build the proved library where it is missing"
+HOW_TO_BUILD = f"cd {shlex.quote(str(ROOT))} && {shlex.join(BUILD)}"
 
-class Refusal(NamedTuple):
-    number: int
-    table: int
-    row: int
+# What a linker says of an archive that is older than the header.
+LACKS_A_CALL = re.compile(r"undefined (?:symbol|reference)\b.*\bdesterlin_")
 
 
 def judged(octets: bytes) -> Union[Refusal, List[Finding]]:
     """All findings of a listing, in the library's order, or why it refuses the listing."""
+    return answer(asked("report", octets).decode("ascii").splitlines())
+
+
+def written(parts: Sequence[bytes]) -> Union[Refusal, bytes]:
+    """The listing of the seven parts, or why the library refuses to write it."""
+    sizes = struct.pack("<7Q", *map(len, parts))
+    line, _, octets = asked("write", b"".join([sizes, *parts])).partition(b"\n")
+    words = line.decode("ascii", "replace").split()
+    refusal = refused(words)
+    if refusal is not None:
+        return refusal
+    if words != ["written", str(len(octets))]:
+        raise Trouble(f"the library's listing breaks off after {counted(len(octets), 'octet')}")
+    return octets
+
+
+def asked(what: str, octets: bytes) -> bytes:
+    """What call-library answers."""
     caller = str(program())
     try:
-        ran = subprocess.run([caller], input=octets, stdout=subprocess.PIPE, stderr=subprocess.PIPE, check=False)
+        ran = subprocess.run([caller, what], input=octets, stdout=subprocess.PIPE, stderr=subprocess.PIPE, check=False)
     except OSError as error:
         raise Trouble(f"{caller}: cannot be run: {told(error)}") from error
     if ran.returncode != 0:
         words = ran.stderr.decode("utf-8", "replace").strip() or f"it ended with status {ran.returncode}"
         raise Trouble(f"the library's program failed: {words}")
-    return answer(ran.stdout.decode("ascii").splitlines())
+    return ran.stdout
 
 
 def answer(lines: List[str]) -> Union[Refusal, List[Finding]]:
     """What the lines of the desk program, or of call-library, say."""
     last = lines[-1].split() if lines else []
-    if last[:1] == ["refused"]:
-        return Refusal(*map(int, last[1:]))
+    refusal = refused(last)
+    if refusal is not None:
+        return refusal
     findings = list(read_findings(lines[:-1]))
     if last != ["total", str(len(findings))]:
         raise Trouble(f"the library's answer breaks off after {len(findings)} findings")
     return findings
+
+
+def refused(words: List[str]) -> Optional[Refusal]:
+    return Refusal(*map(int, words[1:])) if words[:1] == ["refused"] else None
 
 
 def read_findings(lines: List[str]) -> Iterator[Finding]:
@@ -79,7 +107,7 @@ def archive(may_build: bool = True) -> Path:
     if not os.path.isfile(found):
         raise Trouble(
             f"the proved library is not built: there is no {found}\n"
-            f"build it with:  cd {shlex.quote(str(ROOT))} && {shlex.join(BUILD)}"
+            f"build it with:  {HOW_TO_BUILD}"
         )
     return found
 
@@ -87,12 +115,11 @@ def archive(may_build: bool = True) -> Path:
 def build() -> None:
     progress = Progress()
     # On a terminal this takes the place of what stood there before.
-    progress.say("the proved library is not built; another check may be building it")
+    progress.say("the proved library is not built; another tool may be building it")
     with locked("the proved library is not built, and cannot be here"):
         progress.clear()
         if not os.path.isfile(ARCHIVE):
-            words = f"gpkg-check: the proved library is not built yet; {shlex.join(BUILD)} takes some minutes"
-            print(words, file=sys.stderr, flush=True)
+            complain([f"the proved library is not built yet; {shlex.join(BUILD)} takes some minutes"])
             run_build(progress)
             progress.clear()
 
@@ -172,6 +199,9 @@ def compile_program(command: List[str], made: Path) -> None:
         ran = subprocess.run(whole, stdout=subprocess.PIPE, stderr=subprocess.STDOUT, check=False)
         if ran.returncode != 0:
             words = ran.stdout.decode("utf-8", "replace").strip()
+            if LACKS_A_CALL.search(words):
+                words += f"\nthe archive lacks a call of {HEADER.name}, so it is an old one"
+                words += f"; build it anew with:  {HOW_TO_BUILD}"
             raise Trouble(f"call-library.c cannot be compiled: {shlex.join(whole)}\n{words}")
         # What cc-x86-64 puts beside the program has a longer name and comes first: a program that is there can run.
         for path in sorted(Path(folder).iterdir(), reverse=True):
@@ -180,7 +210,7 @@ def compile_program(command: List[str], made: Path) -> None:
 
 @contextlib.contextmanager
 def locked(trouble: str) -> Iterator[None]:
-    """Two checks may start at once: one makes what is missing, and the other waits for it."""
+    """Two tools may start at once: one makes what is missing, and the other waits for it."""
     try:
         BUILT.mkdir(parents=True, exist_ok=True)
         with open(BUILT / "lock", "w", encoding="utf-8") as lock:

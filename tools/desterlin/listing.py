@@ -1,4 +1,7 @@
-"""A listing as docs/LISTING.md lays it down: octets made from rows, and rows read back from octets."""
+"""The rows of a listing as docs/LISTING.md lays them down: octets made from rows, and rows read back from octets.
+
+What stands around the rows, a header with every count and offset, is the work of the proved writer (library.py).
+"""
 
 from __future__ import annotations
 
@@ -7,8 +10,6 @@ import itertools
 import struct
 from typing import Dict, Iterator, List, NamedTuple, Optional, Sequence, Tuple, Union
 
-VERSION = 1
-HEADER_OCTETS = 64
 LISTING_MOST = 9_762_880
 NAMES_MOST = 1_048_576
 NULL = (4_294_967_295, 0)
@@ -110,13 +111,16 @@ TILES = Table(5, "tiles", "tile", 262_144, Tile, [TEXT] + [WHOLE] * 3)
 EXTENSIONS = Table(6, "extensions", "extension", 1_024, Extension, [Kind.TEXT_OR_NULL] * 2 + [TEXT] * 2)
 TABLES = [REFERENCES, CONTENTS, SETS, MATRICES, TILES, EXTENSIONS]
 
+# The title of table 7, which has no rows but octets.
+NAME_OCTETS = "name octets"
+
 
 class Overfull(Exception):
     """More rows, or more name octets, than a listing carries."""
 
 
 class Draft:
-    """A listing in the making: rows go in, table by table, and octets come out."""
+    """A listing in the making: rows go in, table by table, and come out as the parts that the writer takes."""
 
     def __init__(self) -> None:
         self.names = bytearray()
@@ -154,36 +158,27 @@ class Draft:
             self.names += octets
         return start, len(octets)
 
-    def listing(self) -> bytes:
-        parts = [bytes(self.octets[table]) for table in TABLES] + [bytes(self.names)]
-        counts = [self.counts[table] for table in TABLES] + [len(self.names)]
-        header = [VERSION, HEADER_OCTETS + sum(map(len, parts))]
-        offset = HEADER_OCTETS
-        for count, part in zip(counts, parts):
-            header += [count, offset]
-            offset += len(part)
-        return struct.pack("<16I", *header) + b"".join(parts)
+    def parts(self) -> List[bytes]:
+        """The octets of tables 1 to 7."""
+        return [*(bytes(self.octets[table]) for table in TABLES), bytes(self.names)]
+
+    def rows(self) -> Rows:
+        return Rows(self.parts())
 
 
-class Listing:
-    """The rows of a listing that the library has accepted."""
+class Rows:
+    """The rows of seven parts whose texts all stand in the last one."""
 
-    def __init__(self, octets: bytes) -> None:
-        header = struct.unpack_from("<16I", octets)
-        pairs = list(zip(header[2::2], header[3::2]))
-        self.counts = {table: pairs[table.number - 1][0] for table in TABLES}
-        self.offsets = {table: pairs[table.number - 1][1] for table in TABLES}
-        self.octets = octets
-        self.names = octets[pairs[6][1]:]
+    def __init__(self, parts: Sequence[bytes]) -> None:
+        *tables, self.names = parts
+        self.octets = dict(zip(TABLES, tables))
+        self.counts = {table: len(octets) // table.form.size for table, octets in self.octets.items()}
 
     def values(self, table: Table, row: int) -> List[Value]:
-        place = self.offsets[table] + row * table.form.size
-        return self.decoded(table, table.form.unpack_from(self.octets, place))
+        return self.decoded(table, table.form.unpack_from(self.octets[table], row * table.form.size))
 
     def all_values(self, table: Table) -> Iterator[List[Value]]:
-        start = self.offsets[table]
-        part = self.octets[start:start + self.counts[table] * table.form.size]
-        return (self.decoded(table, words) for words in table.form.iter_unpack(part))
+        return (self.decoded(table, words) for words in table.form.iter_unpack(self.octets[table]))
 
     def decoded(self, table: Table, words: Sequence[Union[int, float]]) -> List[Value]:
         values: List[Value] = []
@@ -219,3 +214,13 @@ class Listing:
 
     def tile(self, row: int) -> Tile:
         return Tile(*self.values(TILES, row))  # type: ignore[arg-type]
+
+
+class Listing(Rows):
+    """The rows of a listing that the library has accepted."""
+
+    def __init__(self, octets: bytes) -> None:
+        # After version and length, each table's count and offset; each ends where the next one begins, the last with
+        # the listing.
+        offsets = struct.unpack_from("<16I", octets)[3::2]
+        super().__init__([octets[start:end] for start, end in zip(offsets, [*offsets[1:], len(octets)])])

@@ -82,7 +82,7 @@ def place(judged: Judged, finding: Finding) -> str:
 
 
 def row_words(judged: Judged, table: Table, row: int) -> str:
-    origin = judged.origin(table, row)
+    origin = judged.origins.of(table, row)
     return f"row {row} ({origin})" if origin else f"row {row}"
 
 
@@ -155,7 +155,7 @@ def row_object(judged: Judged, table: Table, row: Optional[int]) -> Optional[Dic
         return None
     values = judged.listing.values(table, row)
     columns = {field.name: json_value(value) for field, value in zip(table.fields, values)}
-    return {"table": table.title, "row": row, "origin": judged.origin(table, row), "columns": columns}
+    return {"table": table.title, "row": row, "origin": judged.origins.of(table, row), "columns": columns}
 
 
 def json_value(value: Value) -> object:

@@ -1,10 +1,12 @@
-"""The 36 rules: code, table, words and the place in GeoPackage 1.2.1. docs/RULES.md says each in full."""
+"""The 36 rules (code, table, words and the place in GeoPackage 1.2.1), and the reasons for which there is no judgement.
+docs/RULES.md and docs/LISTING.md say each in full."""
 
 from __future__ import annotations
 
 from typing import NamedTuple, Optional
 
 from .listing import CONTENTS, EXTENSIONS, MATRICES, REFERENCES, SETS, TILES, Table
+
 
 class Rule(NamedTuple):
     code: int
@@ -22,6 +24,14 @@ class Finding(NamedTuple):
     code: int
     row: Optional[int]
     partner: Optional[int]
+
+
+class Refusal(NamedTuple):
+    """The number of a reason, and its place: a table's number and a row, or 0 0."""
+
+    number: int
+    table: int
+    row: int
 
 
 RULES = {
@@ -66,7 +76,7 @@ RULES = {
     ]
 }
 
-# Why a listing is refused, by number (docs/LISTING.md).
+# Why a listing is refused, or not written, by number (docs/LISTING.md). No tool asks for what has 9 and 10.
 REASONS = {
     1: "it has fewer octets than a header",
     2: "it has more octets than a listing may have",
@@ -76,4 +86,6 @@ REASONS = {
     6: "a table does not begin, or the last one not end, where it must",
     7: "a text lies outside the name octets, or is NULL where it may not be",
     8: "a contents row's flag, spare or absent srs_id is not as laid down",
+    11: "the octets of a table are not whole rows",
+    12: "there is no room for it",
 }

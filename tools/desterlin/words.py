@@ -1,4 +1,4 @@
-"""A finding in words: the names and numbers that are wrong, for the person who has to put them right."""
+"""A finding or a refusal in words: what is wrong, and where, for the person who has to put it right."""
 
 from __future__ import annotations
 
@@ -7,8 +7,8 @@ import struct
 from typing import Callable, Dict, List, NamedTuple, Optional, Tuple
 
 from .console import shown
-from .listing import Listing, Matrix, MatrixSet, Tile
-from .rules import Finding
+from .listing import NAME_OCTETS, TABLES, Listing, Matrix, MatrixSet, Table, Tile
+from .rules import REASONS, Finding, Refusal
 
 # Up to here every product of whole numbers is a double.
 LARGEST_EXACT = 2**53
@@ -55,6 +55,26 @@ def words(known: Known, finding: Finding) -> str:
     if finding.row is None:
         return WITHOUT_A_ROW[finding.code](known)
     return WITH_A_ROW[finding.code](known, Found(finding.row, -1 if finding.partner is None else finding.partner))
+
+
+# Refusals
+
+
+# Of the reasons, those that are about one row; at the others row 0 stands for all of a table.
+OF_ONE_ROW = {7, 8}
+
+
+def refusal_words(refusal: Refusal, origin: Callable[[Table, int], Optional[str]]) -> str:
+    """The reason, and its place, if it has one; `origin` tells where a row came from, if that is known."""
+    words = f"reason {refusal.number}: {REASONS[refusal.number]}"
+    if refusal.table == 0:
+        return words
+    place = f"table {refusal.table}, {NAME_OCTETS}, row {refusal.row}"
+    for table in TABLES:
+        if table.number == refusal.table:
+            came_from = origin(table, refusal.row) if refusal.number in OF_ONE_ROW else None
+            place = f"table {table.number}, {table.title}, row {refusal.row}" + (f": {came_from}" if came_from else "")
+    return f"{words} ({place})"
 
 
 # Reference systems
