@@ -212,8 +212,8 @@ enum desterlin_lookup_word {
  * and the parts of an accepted listing write back to the same octets.
  *
  * answer (DESTERLIN_WRITE_ANSWER octets), four words:
- *   0 number         0 written, or 11, 5, 7, 8 or 12 (enum desterlin_reason); 5, 7 and 8 as a report on the listing of
- *                    these parts would give them
+ *   0 number         0 written, or 11, 5, 7, 8 or 12 (enum desterlin_reason); 5, 7 and 8 are the faults, with their
+ *                    places, that a listing of these parts would have
  *   1 refused table  \ place of the refusal; 0 0 where written
  *   2 refused row    /
  *   3 octets         how long the listing is: the 64 of the header and those of all parts; 0 where refused

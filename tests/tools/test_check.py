@@ -168,6 +168,7 @@ class Packs(InRoom):
         os.close(ours)
         self.assertEqual(ran.returncode, 0)
         self.assertIn("\rreading gpkg_contents", said)
+        self.assertIn("\rwriting the listing", said)
         self.assertIn("\rjudging 1,997 octets", said)
         self.assertRegex(said, " \r$")
         self.assertNotIn(b"\r", ran.stdout)
