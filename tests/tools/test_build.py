@@ -8,7 +8,6 @@ import shutil
 import subprocess
 import sys
 import unittest
-from pathlib import Path
 from typing import Dict, List
 
 from packs import PACKS, ROOT, InRoom, needs_library

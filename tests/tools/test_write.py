@@ -81,7 +81,8 @@ class InC:
         self.command = [compiler, f"-std={standard}", "-pedantic", "-Wall", "-Wextra", "-Werror", "-x", language]
 
     def can_compile(self) -> bool:
-        return Ran([*self.command, "-", "-o", BUILT / "nothing"], b"int main(void) { return 0; }").status == 0
+        source = b"#include <stdio.h>\n#include <stdlib.h>\n#include <string.h>\nint main(void) { return 0; }\n"
+        return Ran([*self.command, "-", "-x", "none", "-o", BUILT / "nothing"], source).status == 0
 
     def compile(self) -> Ran:
         source = [f"-I{ROOT / 'include'}", ROOT / "tests" / "tools" / "written.c"]

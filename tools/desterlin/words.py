@@ -69,12 +69,10 @@ def refusal_words(refusal: Refusal, origin: Callable[[Table, int], Optional[str]
     words = f"reason {refusal.number}: {REASONS[refusal.number]}"
     if refusal.table == 0:
         return words
-    place = f"table {refusal.table}, {NAME_OCTETS}, row {refusal.row}"
-    for table in TABLES:
-        if table.number == refusal.table:
-            came_from = origin(table, refusal.row) if refusal.number in OF_ONE_ROW else None
-            place = f"table {table.number}, {table.title}, row {refusal.row}" + (f": {came_from}" if came_from else "")
-    return f"{words} ({place})"
+    table = {table.number: table for table in TABLES}.get(refusal.table)
+    place = f"table {refusal.table}, {table.title if table else NAME_OCTETS}, row {refusal.row}"
+    came_from = origin(table, refusal.row) if table and refusal.number in OF_ONE_ROW else None
+    return f"{words} ({place}: {came_from})" if came_from else f"{words} ({place})"
 
 
 # Reference systems
