@@ -1,23 +1,20 @@
--- The laws of a header that is written: it is read as it was meant, and that of an accepted listing is written again.
+-- The laws of a header that is written: where tables start, and that it is read as it was meant.
 use Prim.Native.Nat.{ℕ, zero, suc, _+_, _*_, _^_, _<_, _≤_}
-use mathlib.Core.Path.{_≡_, refl, sym, _∙_}
+use mathlib.Core.Path.{_≡_, refl, sym, ap, _∙_}
 use mathlib.Core.List.{List, _++_, append-assoc}
-use mathlib.Core.Bool.{true}
+use native.Mathlib.Nat.{le-refl}
 use native.Mathlib.Numerals.{add-one}
+use native.Mathlib.Decide.{le-ind}
 use native.Mathlib.Omega.{arith}
-use borrow.Author.Tests.{eqb-true, ltb-false, not-false}
 use lib.ListN.{length, take, getD, length-append}
 use lib.Seq.{sets, take-add}
 use Rattle.octets.specs.Octets.{le32, word, filled}
 use Rattle.octets.specs.BufferLaws.{filled-more}
 use Rattle.octets.specs.OctetLaws.{le32-word, le32-past, word-back}
 use Rattle.octets.specs.Gather.{gather}
-use Rattle.octets.specs.GatherLaws.{gather-upto, gather-even, gather-agree}
+use Rattle.octets.specs.GatherLaws.{gather-around, gather-even}
 use Rattle.listing.specs.Listing.{row, version, total, count, offset, start}
 use Rattle.listing.specs.Header.{startOf, two, pair, pairs, header}
-use Rattle.listing.specs.Refusals.{headerReasons, outcome, isAccepted}
-use Rattle.listing.specs.RefusalLaws.{accepted-exactly}
-use Rattle.listing.specs.ListingLaws.{offset-start, final-end}
 
 -- the second of two words is read again
 second-read : (v w : ℕ) (s : List ℕ) → w < 2 ^ 32 → le32 (two v w ++ s) 4 ≡ w
@@ -25,7 +22,7 @@ unfolding two
 second-read v w s h = le32-past (word v) (word w ++ s) 0 ∙ le32-word w s h
 
 -- pairs of words that were read are the octets that they were read from
-pairs-back : (n : ℕ) (s : List ℕ) → ((k : ℕ) → getD s k 0 < 256) → 8 * n ≤ length s → gather n (λ k. two (le32 s (8 * k)) (le32 s (8 * k + 4))) ≡ take (8 * n) s
+pub pairs-back : (n : ℕ) (s : List ℕ) → ((k : ℕ) → getD s k 0 < 256) → 8 * n ≤ length s → gather n (λ k. two (le32 s (8 * k)) (le32 s (8 * k + 4))) ≡ take (8 * n) s
 unfolding two
 pairs-back zero s p h = refl
 pairs-back (suc n) s p h =
@@ -48,6 +45,11 @@ pub start-agree : (f g : ℕ → ℕ) (n : ℕ) → ((k : ℕ) → k < n → f k
 unfolding startOf
 start-agree f g zero h = refl
 start-agree f g (suc n) h = omega (arith, start-agree f g n (λ k l. h k (omega arith)), h n (omega arith))
+
+-- a table starts no earlier than the ones before it
+pub start-grows : (z : ℕ → ℕ) (k n : ℕ) → k ≤ n → startOf z k ≤ startOf z n
+unfolding startOf
+start-grows z k n l = le-ind (λ (m : ℕ). startOf z k ≤ startOf z m) (le-refl _) (λ m _ q. omega (arith, q)) n l
 
 -- the reader's start is that of the octets that its counts take
 pub start-read : (s : List ℕ) (k : ℕ) → start s k ≡ startOf (λ j. row j * count s j) k
@@ -77,14 +79,11 @@ module _ (v : ℕ) (c z : ℕ → ℕ) where
       rw add-one (filled-more (gather (suc k) (pair v c z)) (pair v c z (suc k)) b d e (8 * suc k) p (sym (pairs-length (suc k))) (omega (arith, pair-length (suc k))) (q ∙ rw (f, g)))
 
   -- what the reader finds in pair k of a header before other octets
-  upto : (n k : ℕ) (t : List ℕ) → k < n → (rest : List ℕ) × (gather n (pair v c z) ++ t ≡ gather k (pair v c z) ++ (pair v c z k ++ rest))
-  upto n k t l =
-      let g = gather-upto (suc k) n (pair v c z) l in
-      (g .0 ++ t, rw (g .1, append-assoc, append-assoc))
-
   at-pair : (k : ℕ) (t : List ℕ) → k < 8 → (rest : List ℕ) × (header v c z ++ t ≡ gather k (pair v c z) ++ (pair v c z k ++ rest))
   unfolding pairs
-  at-pair k t l = upto 8 k t l
+  at-pair k t l =
+      let g = gather-around k 8 (pair v c z) l in
+      (g .0 ++ t, ap (λ (xs : List ℕ). xs ++ t) (g .1) ∙ simp append-assoc)
 
   first-word : (k : ℕ) (t : List ℕ) → k < 8 → (rest : List ℕ) × (le32 (header v c z ++ t) (8 * k) ≡ le32 (pair v c z k ++ rest) 0)
   unfolding pairs
@@ -117,30 +116,3 @@ module _ (v : ℕ) (c z : ℕ → ℕ) where
   unfolding offset two
   offset-read zero t l m h = absurd (omega (arith, l))
   offset-read (suc k) t l m h = let g = second-word (suc k) t (omega arith) in g .1 ∙ second-read (c (suc k)) (startOf z (suc k)) (g .0) h
-
--- ---- an accepted listing's header, from its counts
-module _ (s : List ℕ) (a : isAccepted (outcome s) ≡ true) where
-  pub header-room : 64 ≤ length s
-  unfolding headerReasons
-  header-room = ltb-false (length s) 64 (accepted-exactly s .0 a 0)
-
-  pub version-one : version s ≡ 1
-  unfolding headerReasons
-  version-one = eqb-true (version s) 1 (not-false _ (accepted-exactly s .0 a 2))
-
-  pub total-length : total s ≡ length s
-  unfolding headerReasons
-  total-length = eqb-true (total s) (length s) (not-false _ (accepted-exactly s .0 a 3))
-
-  pub header-back : ((k : ℕ) → getD s k 0 < 256) → header 1 (count s) (λ k. row k * count s k) ≡ take 64 s
-  unfolding pairs two version total count offset
-  header-back p = gather-agree 8 (pair 1 (count s) (λ k. row k * count s k)) (λ k. two (le32 s (8 * k)) (le32 s (8 * k + 4))) same ∙ pairs-back 8 s p header-room
-    where
-      same : (k : ℕ) → k < 8 → pair 1 (count s) (λ k. row k * count s k) k ≡ two (le32 s (8 * k)) (le32 s (8 * k + 4))
-      same zero l =
-          let e : le32 s 0 ≡ 1 = version-one in
-          let f : le32 s 4 ≡ startOf (λ k. row k * count s k) 8 = total-length ∙ sym (final-end s a) ∙ start-read s 8 in
-          rw (e, f)
-      same (suc k) l =
-          let f : le32 s (8 * suc k + 4) ≡ startOf (λ k. row k * count s k) (suc k) = offset-start s a (suc k) (omega arith) (omega arith) ∙ start-read s (suc k) in
-          rw f

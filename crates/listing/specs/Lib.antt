@@ -1,8 +1,8 @@
 pub mod Listing
 pub mod TableLaws
+pub mod Header
+pub mod HeaderLaws
 pub mod Refusals
 pub mod ReasonLaws
 pub mod RefusalLaws
 pub mod ListingLaws
-pub mod Header
-pub mod HeaderLaws

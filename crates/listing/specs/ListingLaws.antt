@@ -1,21 +1,23 @@
 -- What an accepted listing is: header and tables follow each other without gaps, each table is whole and no longer than its most, and no row is at fault.
 use Prim.Native.Nat.{ℕ, zero, suc, _+_, _*_, _<_, _≤_}
-use mathlib.Core.Path.{_≡_, refl, sym, ap, _∙_, subst}
+use mathlib.Core.Path.{_≡_, refl, sym, ap, _∙_}
 use mathlib.Core.List.{List, _++_, append-assoc, append-nil}
 use mathlib.Core.Bool.{Bool, true, false, not, _&&_, _||_, false≢true}
-use mathlib.Core.Logic.{⊎-elim}
-use native.Mathlib.Nat.{le-refl, le-of-suc-le-suc, eq-or-lt-of-le, mul-div-cancel-left, zero-mul}
+use native.Mathlib.Nat.{mul-div-cancel-left, zero-mul}
 use native.Mathlib.Omega.{arith}
 use borrow.Author.Tests.{lt-ltb, eqb-true, eqb-false, ltb-false, not-false, le-leb}
 use lib.Dec.{eqb}
-use lib.ListN.{length, take, drop, length-take, length-drop}
+use lib.ListN.{length, take, drop, getD, length-take, length-drop}
 use lib.Seq.{take-add, take-length}
-use Rattle.octets.specs.Octets.{part}
+use Rattle.octets.specs.Octets.{le32, part}
 use Rattle.octets.specs.Search.{first, any}
 use Rattle.octets.specs.SearchLaws.{first-lowest, none-at}
 use Rattle.octets.specs.Gather.{gather}
-use Rattle.listing.specs.Listing.{row, most, count, offset, start, table, rows}
+use Rattle.octets.specs.GatherLaws.{gather-agree}
+use Rattle.listing.specs.Listing.{row, most, version, total, count, offset, start, table, rows}
 use Rattle.listing.specs.TableLaws.{tables-seven}
+use Rattle.listing.specs.Header.{startOf, two, pair, pairs, header}
+use Rattle.listing.specs.HeaderLaws.{start-read, start-grows, pairs-back}
 use Rattle.listing.specs.Refusals.{over, moved, badRow, lowestBadRow, badTable, badContents, headerReasons, rowReasons, outcome, isAccepted}
 use Rattle.listing.specs.RefusalLaws.{accepted-exactly}
 
@@ -32,15 +34,6 @@ or-left false b e = refl
 or-right : (a b : Bool) → (a || b) ≡ false → b ≡ false
 or-right true b e = absurd (false≢true (sym e))
 or-right false b e = e
-
-module _ (s : List ℕ) where
-  -- a table starts no earlier than the ones before it
-  start-grows : (n k : ℕ) → k ≤ n → start s k ≤ start s n
-  unfolding start
-  start-grows zero zero h = le-refl _
-  start-grows zero (suc k) h = omega arith
-  start-grows (suc n) k h =
-      ⊎-elim (λ q. subst (λ (m : ℕ). start s m ≤ start s (suc n)) (sym q) (le-refl _)) (λ g. omega (arith, start-grows n k (le-of-suc-le-suc g))) (eq-or-lt-of-le h)
 
 module _ (s : List ℕ) (a : isAccepted (outcome s) ≡ true) where
   none-over : (k : ℕ) → k ≤ 7 → over s k ≡ false
@@ -66,7 +59,7 @@ module _ (s : List ℕ) (a : isAccepted (outcome s) ≡ true) where
 
   table-inside : (k : ℕ) → k ≤ 7 → start s k + row k * count s k ≤ length s
   unfolding start
-  table-inside k h = omega (arith, final-end, start-grows s 8 (suc k) (omega arith))
+  table-inside k h = omega (arith, final-end, start-read s (suc k), start-read s 8, start-grows (λ j. row j * count s j) (suc k) 8 (omega arith))
 
   -- a table is the octets between its start and the next
   table-cut : (k : ℕ) → k ≤ 7 → table s k ≡ take (row k * count s k) (drop (start s k) s)
@@ -108,3 +101,30 @@ module _ (s : List ℕ) (a : isAccepted (outcome s) ≡ true) where
   pub no-bad-contents : (i : ℕ) → i < rows 2 (table s 2) → badContents (table s 2) i ≡ false
   unfolding headerReasons rowReasons
   no-bad-contents i b = none-at (badContents (table s 2)) (rows 2 (table s 2)) (accepted-exactly s .0 a 7) i b
+
+  -- the header is whole, of version 1, and says the length
+  pub header-room : 64 ≤ length s
+  unfolding headerReasons
+  header-room = ltb-false (length s) 64 (accepted-exactly s .0 a 0)
+
+  pub version-one : version s ≡ 1
+  unfolding headerReasons
+  version-one = eqb-true (version s) 1 (not-false _ (accepted-exactly s .0 a 2))
+
+  pub total-length : total s ≡ length s
+  unfolding headerReasons
+  total-length = eqb-true (total s) (length s) (not-false _ (accepted-exactly s .0 a 3))
+
+  -- and its octets are those that its counts make
+  pub header-back : ((k : ℕ) → getD s k 0 < 256) → header 1 (count s) (λ k. row k * count s k) ≡ take 64 s
+  unfolding pairs two version total count offset
+  header-back p = gather-agree 8 (pair 1 (count s) (λ k. row k * count s k)) (λ k. two (le32 s (8 * k)) (le32 s (8 * k + 4))) same ∙ pairs-back 8 s p header-room
+    where
+      same : (k : ℕ) → k < 8 → pair 1 (count s) (λ k. row k * count s k) k ≡ two (le32 s (8 * k)) (le32 s (8 * k + 4))
+      same zero l =
+          let e : le32 s 0 ≡ 1 = version-one in
+          let f : le32 s 4 ≡ startOf (λ k. row k * count s k) 8 = total-length ∙ sym final-end ∙ start-read s 8 in
+          rw (e, f)
+      same (suc k) l =
+          let f : le32 s (8 * suc k + 4) ≡ startOf (λ k. row k * count s k) (suc k) = offset-start (suc k) (omega arith) (omega arith) ∙ start-read s (suc k) in
+          rw f

@@ -18,7 +18,7 @@ use Rattle.octets.specs.BufferLaws.{sets-append, filled-more}
 use Rattle.octets.specs.Search.{first}
 use Rattle.octets.specs.SearchLaws.{finds, misses}
 use Rattle.octets.specs.Gather.{gather}
-use Rattle.octets.specs.GatherLaws.{gather-upto, gather-agree}
+use Rattle.octets.specs.GatherLaws.{gather-around, gather-agree}
 use Rattle.listing.specs.Listing.{row, most, numbered, rows}
 use Rattle.listing.specs.TableLaws.{numbered-none}
 use Rattle.listing.specs.Header.{listed, startOf, pair, pairs, header}
@@ -102,8 +102,8 @@ module _ (ps : ℕ → List ℕ) (w : Sized ps) where
 joined-room : (ps : ℕ → List ℕ) (n k : ℕ) → k < n → length (joined ps k) + length (ps k) ≤ length (joined ps n)
 unfolding joined
 joined-room ps n k l =
-    let q = gather-upto (suc k) n ps l in
-    omega (arith, ap length (q .1), length-append (gather k ps ++ ps k) (q .0), length-append (gather k ps) (ps k))
+    let q = gather-around k n ps l in
+    omega (arith, ap length (q .1), length-append (gather k ps) (ps k ++ q .0), length-append (ps k) (q .0))
 
 joined-length : (ps : ℕ → List ℕ) → length (written ps) ≡ 64 + length (joined ps 8)
 unfolding sizeOf joined

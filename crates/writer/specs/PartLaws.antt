@@ -3,8 +3,8 @@ use Prim.Native.Nat.{ℕ, zero, suc, _+_, _*_, _^_, _<_, _≤_}
 use mathlib.Core.Path.{_≡_, sym, ap, _∙_, subst, fun-ext}
 use mathlib.Core.List.{List, [], _++_, append-assoc}
 use mathlib.Core.Bool.{true}
-use native.Mathlib.Nat.{le-refl, zero-mul, mul-le-mul-left, lt-of-not-le}
-use native.Mathlib.Decide.{le-ind, decLe}
+use native.Mathlib.Nat.{zero-mul, mul-le-mul-left, lt-of-not-le}
+use native.Mathlib.Decide.{decLe}
 use native.Mathlib.Omega.{arith}
 use borrow.Author.Tests.{ltb-false}
 use lib.Dec.{ltb}
@@ -14,12 +14,12 @@ use Rattle.octets.specs.BufferLaws.{part-between}
 use Rattle.octets.specs.Search.{first}
 use Rattle.octets.specs.SearchLaws.{first-lowest}
 use Rattle.octets.specs.Gather.{gather}
-use Rattle.octets.specs.GatherLaws.{gather-upto, gather-agree}
+use Rattle.octets.specs.GatherLaws.{gather-around, gather-agree}
 use Rattle.listing.specs.Listing.{row, most, count, offset, start, table, rows}
 use Rattle.listing.specs.TableLaws.{Seven, Short, tables-seven}
-use Rattle.listing.specs.ListingLaws.{table-length, table-rows, count-most, header-and-tables}
+use Rattle.listing.specs.ListingLaws.{table-length, table-rows, count-most, header-and-tables, header-back}
 use Rattle.listing.specs.Header.{startOf, pair, pairs, header}
-use Rattle.listing.specs.HeaderLaws.{start-gather, start-agree, start-read, header-length, count-read, offset-read, header-back}
+use Rattle.listing.specs.HeaderLaws.{start-gather, start-agree, start-read, start-grows, header-length, count-read, offset-read}
 use Rattle.listing.specs.Refusals.{outcome, isAccepted}
 use Rattle.writer.specs.Parts.{sizeOf, countOf, joined, written}
 
@@ -30,10 +30,6 @@ pub record Sized (ps : ℕ → List ℕ) : Type 0 where
   pub few : (k : ℕ) → 1 ≤ k → k ≤ 7 → rows k (ps k) ≤ most k
 
 -- ---- how long they are
-start-grows : (z : ℕ → ℕ) (k n : ℕ) → k ≤ n → startOf z k ≤ startOf z n
-unfolding startOf
-start-grows z k n l = le-ind (λ (m : ℕ). startOf z k ≤ startOf z m) (le-refl _) (λ m _ q. omega (arith, q)) n l
-
 most-small : (k : ℕ) → k ≤ 7 → most k ≤ 4294967295
 unfolding first most
 most-small k h = ltb-false 4294967295 (most k) (first-lowest (λ j. ltb 4294967295 (most j)) 8 .below k (omega arith))
@@ -43,18 +39,14 @@ unfolding written sizeOf joined
 written-length ps = length-append (header 1 (countOf ps) (sizeOf ps)) (gather 8 ps) ∙ ap (λ (n : ℕ). n + length (gather 8 ps)) (header-length 1 (countOf ps) (sizeOf ps)) ∙ sym (start-gather ps 8)
 
 -- each part stands at its start, behind any header of 64 octets
-upto : (h : List ℕ) (ps : ℕ → List ℕ) (n k : ℕ) → k < n → (rest : List ℕ) × (h ++ gather n ps ≡ h ++ gather k ps ++ (ps k ++ rest))
-upto h ps n k l =
-    let g = gather-upto (suc k) n ps l in
-    (g .0, ap (λ (xs : List ℕ). h ++ xs) (g .1) ∙ simp append-assoc)
-
 pub part-joined : (h : List ℕ) (ps : ℕ → List ℕ) (k : ℕ) → k ≤ 7 → length h ≡ 64 → part (h ++ joined ps 8) (startOf (sizeOf ps) k) (sizeOf ps k) ≡ ps k
 unfolding sizeOf joined
 part-joined h ps k l e =
-    let g = upto h ps 8 k (omega arith) in
+    let g = gather-around k 8 ps (omega arith) in
     let q : startOf (sizeOf ps) k ≡ length (h ++ gather k ps) = start-gather ps k ∙ sym (length-append h (gather k ps) ∙ ap (λ (n : ℕ). n + length (gather k ps)) e) in
     ap (λ (n : ℕ). part (h ++ gather 8 ps) n (length (ps k))) q
-    ∙ ap (λ (xs : List ℕ). part xs (length (h ++ gather k ps)) (length (ps k))) (g .1)
+    ∙ ap (λ (xs : List ℕ). part (h ++ xs) (length (h ++ gather k ps)) (length (ps k))) (g .1)
+    ∙ ap (λ (xs : List ℕ). part xs (length (h ++ gather k ps)) (length (ps k))) (sym (append-assoc h (gather k ps) (ps k ++ g .0)))
     ∙ part-between (h ++ gather k ps) (ps k) (g .0)
 
 module _ (ps : ℕ → List ℕ) (w : Sized ps) where
