@@ -1,10 +1,10 @@
-//! Desterlin's second program: an independent judge of listings, written from
-//! document 01 alone, and a maker of listings to judge.
+//! Desterlin's second program: an independent judge and writer of listings,
+//! written from documents 01 and 02 alone, and a maker of listings to judge.
 //!
 //! * [`listing`] reads octets, or says why it turns them away;
 //! * [`rules`] holds the 36 codes and finds what breaks them;
-//! * [`calls`] answers report, verdict and lookup, in the paper's terms and in
-//!   the octets of the three C calls;
+//! * [`calls`] answers report, verdict, lookup and write, in the papers' terms
+//!   and in the octets of the C calls;
 //! * [`cases`] chooses calls, and says what must come of each in every octet;
 //! * [`desk`] says what the desk program must print;
 //! * [`make`] and [`generate`] make listings;

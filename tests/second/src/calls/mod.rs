@@ -1,8 +1,11 @@
-//! The three calls in the paper's terms: report, verdict and lookup.
+//! The calls in the papers' terms: report, verdict and lookup; and write.
 
 mod octets;
+mod write;
 
-pub use octets::{lookup_call, report_call, verdict_call, Called, ReportCalled};
+pub use octets::{lookup_call, report_call, verdict_call, write_call};
+pub use octets::{Called, ReportCalled, WriteCalled};
+pub use write::{check_lengths, size_of, write, Parts};
 
 use crate::listing::{read, Refusal};
 use crate::rules::{code_named, Finding, Judge};

@@ -1,12 +1,13 @@
-//! The three C calls: what each returns and leaves in the caller's buffers.
+//! The C calls: what each returns and leaves in the caller's buffers.
 //!
 //! Answers are little-endian u32 words.
 //! * report: number, table, row, total, written;
 //! * verdict: verdict (0 pass, 1 fail, 2 not testable, 3 refused), row, then
 //!   number, table and row of the place;
-//! * lookup: row, then number, table and row of the place.
+//! * lookup: row, then number, table and row of the place;
+//! * write: number, table, row, octets of the listing.
 
-use super::{lookup, report, verdict, Question, Verdict};
+use super::{lookup, report, verdict, write, Parts, Question, Verdict};
 use crate::listing::{Refusal, NONE};
 use crate::rules::WORDS_OF_A_FINDING;
 
@@ -23,6 +24,14 @@ pub struct ReportCalled {
     pub returned: u32,
     pub answer: Vec<u8>,
     pub findings: Vec<u8>,
+}
+
+/// The same for a write, with the buffer of the listing afterwards.
+#[derive(Clone, Debug, PartialEq, Eq)]
+pub struct WriteCalled {
+    pub returned: u32,
+    pub answer: Vec<u8>,
+    pub listing: Vec<u8>,
 }
 
 const ACCEPTED: Refusal = Refusal::at_large(0);
@@ -84,4 +93,19 @@ pub fn lookup_call(listing: &[u8], question: Question, answer: &[u8]) -> Called 
         Err(refusal) => (NONE, refusal),
     };
     answered(answer, &[row, place.number, place.table, place.row])
+}
+
+/// `desterlin_write`, given what both buffers hold before.
+pub fn write_call(parts: &Parts, listing: &[u8], answer: &[u8]) -> WriteCalled {
+    let (refusal, written) = match write(parts, listing.len()) {
+        Ok(written) => (ACCEPTED, written),
+        Err(refusal) => (refusal, Vec::new()),
+    };
+    let Refusal { number, table, row } = refusal;
+    let called = answered(answer, &[number, table, row, written.len() as u32]);
+    let mut listing = listing.to_vec();
+    if called.returned == 1 {
+        listing[..written.len()].copy_from_slice(&written);
+    }
+    WriteCalled { returned: called.returned, answer: called.answer, listing }
 }

@@ -5,6 +5,14 @@ use crate::make::Draft;
 /// A moment that 151 lets pass.
 pub const MOMENT: &str = "2024-02-29T00:00:00.000Z";
 
+/// Octets from their hex digits; whatever else stands between is left out.
+pub fn octets_of(hex: &str) -> Vec<u8> {
+    let digits: Vec<u8> = hex.bytes().filter(u8::is_ascii_hexdigit).collect();
+    let value = |digit: u8| (digit as char).to_digit(16).unwrap_or(0) as u8;
+    let pairs = digits.chunks(2);
+    pairs.map(|pair| value(pair[0]) * 16 + value(pair[1])).collect()
+}
+
 /// The header alone, in octets: version 1, length 64, counts 0, offsets 64.
 pub fn header_alone() -> Vec<u8> {
     let mut octets = vec![1, 0, 0, 0, 64, 0, 0, 0];

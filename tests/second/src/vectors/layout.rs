@@ -1,5 +1,6 @@
 //! "The listing": one row of each table, spelled octet by octet.
 
+use super::base::octets_of;
 use super::Tally;
 use crate::calls::{lookup, Question};
 use crate::listing::{read, Contents, Extension, Extent, Matrix, MatrixSet, Reference, Tile};
@@ -7,7 +8,7 @@ use crate::make::{span, Draft, NULL};
 use crate::make::{ContentsRow, ExtensionRow, MatrixRow, ReferenceRow, SetRow, TileRow};
 
 /// Version 1, 315 octets, one row in tables 1 to 6, three name octets "abc".
-const ONE_ROW_EACH: &str = "
+pub const ONE_ROW_EACH: &str = "
     01000000 3b010000
     01000000 40000000  01000000 60000000  01000000 88000000  01000000 b8000000
     01000000 f8000000  01000000 18010000  03000000 38010000
@@ -28,13 +29,6 @@ const ONE_ROW_EACH: &str = "
     ffffffff 00000000 00000000 00000000 00000000 01000000 01000000 01000000
 
     616263";
-
-fn octets_of(hex: &str) -> Vec<u8> {
-    let digits: Vec<u8> = hex.bytes().filter(u8::is_ascii_hexdigit).collect();
-    let value = |digit: u8| (digit as char).to_digit(16).unwrap_or(0) as u8;
-    let pairs = digits.chunks(2);
-    pairs.map(|pair| value(pair[0]) * 16 + value(pair[1])).collect()
-}
 
 pub fn check(tally: &mut Tally) {
     let octets = octets_of(ONE_ROW_EACH);

@@ -1,6 +1,6 @@
-//! Expectations worked out by hand from the paper. Every expected value here
+//! Expectations worked out by hand from the papers. Every expected value here
 //! is a literal; none comes from the code under test. Each vector names the
-//! line of the paper, or of the readings, that it shows.
+//! line of a paper, or of the readings, that it shows.
 //!
 //! An expected report is written as its findings, `CODE ROW PARTNER` with "-"
 //! for none, separated by commas: the whole list, nothing left out. The empty
@@ -22,6 +22,7 @@ mod spans;
 mod texts;
 mod tiles;
 mod verdicts;
+mod writes;
 
 use std::fmt;
 use std::path::PathBuf;
@@ -60,6 +61,7 @@ pub fn run(samples: PathBuf) -> Tally {
     extensions::check(&mut tally);
     verdicts::check(&mut tally);
     calls::check(&mut tally);
+    writes::check(&mut tally);
     samples::check(&mut tally, &samples);
     tally
 }
