@@ -6,7 +6,7 @@
 
 #include "status.h"
 
-static uint32_t listings_read, calls_read;
+static uint32_t given_read, calls_read;
 
 static void broken(const char *words)
 {
@@ -50,7 +50,7 @@ static int64_t read_i64(void)
 
 void read_mark(void)
 {
-    static const char mark[] = "cases 1\n";
+    static const char mark[] = "cases 2\n";
     struct octets read = { 0 };
     read_octets(&read, sizeof mark - 1);
     if (memcmp(read.at, mark, read.size) != 0)
@@ -60,7 +60,7 @@ void read_mark(void)
 
 static void check_end(void)
 {
-    if (read_u32() != listings_read || read_u32() != calls_read)
+    if (read_u32() != given_read || read_u32() != calls_read)
         broken("its counts are not those of what it has");
     if (getchar() != EOF)
         broken("it goes on after its end");
@@ -68,39 +68,40 @@ static void check_end(void)
         broken("it has no calls");
 }
 
-int read_listing(struct listing *listing)
+int read_given(struct given *given)
 {
-    uint32_t tag = read_u32();
-    if (tag == 0) {
+    given->strings = read_u32();
+    if (given->strings == 0) {
         check_end();
         return 0;
     }
-    if (tag != 1)
-        broken("neither a listing nor the end");
-    read_octets(&listing->origin, read_u32());
-    read_octets(&listing->octets, read_u32());
-    listing->calls = read_u32();
-    listings_read++;
+    if (given->strings != A_LISTING && given->strings != PARTS)
+        broken("neither a listing, nor parts, nor the end");
+    read_octets(&given->origin, read_u32());
+    for (uint32_t i = 0; i < given->strings; i++)
+        read_octets(&given->string[i], read_u32());
+    given->calls = read_u32();
+    given_read++;
     return 1;
 }
 
-void read_call(struct call *call)
+void read_call(const struct given *given, struct call *call)
 {
     uint32_t asked = read_u32();
-    if (asked < REPORT || asked > LOOKUP)
-        broken("a call of no kind");
+    if (given->strings == PARTS ? asked != WRITE : asked < REPORT || asked > LOOKUP)
+        broken("a call of no kind, or of none for what is given");
     call->asked = (enum asked)asked;
     call->number = read_u32();
     call->zoom = read_i64();
     call->column = read_i64();
     call->row = read_i64();
-    call->findings_size = read_u32();
+    call->output_size = read_u32();
     call->work_size = read_u32();
     call->answer_size = read_u32();
     call->fill = (uint8_t)read_u32();
     call->returned = read_u32();
     call->keeps_work = read_u32();
-    read_octets(&call->findings, call->findings_size);
+    read_octets(&call->output, call->output_size);
     read_octets(&call->answer, call->answer_size);
     calls_read++;
 }

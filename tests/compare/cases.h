@@ -9,7 +9,7 @@
 #include <stddef.h>
 #include <stdint.h>
 
-enum asked { REPORT = 1, VERDICT = 2, LOOKUP = 3 };
+enum asked { REPORT = 1, VERDICT = 2, LOOKUP = 3, WRITE = 4 };
 
 /* Octets that grow with what is read into them. */
 struct octets {
@@ -17,9 +17,13 @@ struct octets {
     size_t size, room;
 };
 
-struct listing {
-    struct octets origin; /* the words after "second" that make it, not ended by a 0 */
-    struct octets octets;
+/* What calls are given to read: a listing, or the seven parts of one. */
+enum { A_LISTING = 1, PARTS = 7 };
+
+struct given {
+    struct octets origin; /* the commands that make it, without the first "second", not ended by a 0 */
+    uint32_t strings;     /* A_LISTING or PARTS */
+    struct octets string[PARTS];
     uint32_t calls; /* how many follow */
 };
 
@@ -27,20 +31,21 @@ struct call {
     enum asked asked;
     uint32_t number; /* the code of a verdict, the contents row of a lookup */
     int64_t zoom, column, row;
-    size_t findings_size, work_size, answer_size;
+    size_t output_size, work_size, answer_size; /* output: the findings of a report, the listing of a write */
     uint8_t fill;
     /* what must come of it */
     uint32_t returned;
     uint32_t keeps_work;
-    struct octets findings, answer;
+    struct octets output, answer;
 };
 
 /* Reads the mark at the start. */
 void read_mark(void);
 
-/* Reads a listing, without its calls. Returns 0 at the end of the stream, once its counts are checked. */
-int read_listing(struct listing *listing);
+/* Reads what the next calls are given. Returns 0 at the end of the stream, once its counts are checked. */
+int read_given(struct given *given);
 
-void read_call(struct call *call);
+/* Reads a call on what is given. */
+void read_call(const struct given *given, struct call *call);
 
 #endif

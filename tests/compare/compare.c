@@ -1,6 +1,6 @@
 /*
  * Makes the calls of a stream of cases (standard input; cases.h) on the proved library, and holds what each one returns
- * and every octet of every buffer against what the second program says.
+ * and every octet of every buffer against what the second program says. What was written must also be accepted.
  *
  * Prints each difference, the first MOST_PRINTED of them, and last a line with counts. Exit status: status.h.
  */
@@ -12,6 +12,7 @@
 #include <stdlib.h>
 #include <string.h>
 
+#include "beyond.h"
 #include "cases.h"
 #include "desterlin.h"
 #include "lent.h"
@@ -19,32 +20,57 @@
 
 enum { MOST_PRINTED = 20 };
 
-enum buffer { LISTING, FINDINGS, WORK, ANSWER, BUFFERS };
-
-static const char *const names[BUFFERS] = { "listing", "findings", "work", "answer" };
+/* What is given comes first: the listing, or the parts in their order. */
+enum buffer { GIVEN, OUTPUT = GIVEN + PARTS, WORK, ANSWER, BUFFERS };
 
 /* The case that is being tried. The handler of a fault tells of it too, so it is the one thing that all can see. */
 static struct {
-    struct listing listing;
+    struct given given;
     struct call call;
     struct lent lent[BUFFERS];
     volatile sig_atomic_t is_calling;
 } tried;
 
 static struct {
-    unsigned long listings, reports, verdicts, lookups, short_answers, differences;
+    unsigned long listings, parts, calls[WRITE + 1], written, short_answers, differences;
 } counts;
 
-static int has_buffer(enum asked asked, enum buffer buffer)
+static int has_buffer(enum buffer buffer)
 {
-    return !(buffer == FINDINGS && asked != REPORT) && !(buffer == WORK && asked == LOOKUP);
+    enum asked asked = tried.call.asked;
+    switch (buffer) {
+    case OUTPUT:
+        return asked == REPORT || asked == WRITE;
+    case WORK:
+        return asked == REPORT || asked == VERDICT;
+    case ANSWER:
+        return 1;
+    default:
+        return buffer < GIVEN + tried.given.strings;
+    }
+}
+
+static const char *name_of(enum buffer buffer)
+{
+    static const char *const parts[PARTS] = { "references", "contents",   "sets", "matrices",
+                                              "tiles",      "extensions", "names" };
+    switch (buffer) {
+    case OUTPUT:
+        return tried.call.asked == WRITE ? "listing" : "findings";
+    case WORK:
+        return "work";
+    case ANSWER:
+        return "answer";
+    default:
+        return tried.given.strings == PARTS ? parts[buffer - GIVEN] : "listing";
+    }
 }
 
 /* The case as commands that repeat it, and then what the commands cannot tell. */
 static void print_case(void)
 {
     const struct call *call = &tried.call;
-    printf("second %.*s | second ", (int)tried.listing.origin.size, (const char *)tried.listing.origin.at);
+    printf("second %.*s | second ", (int)tried.given.origin.size, (const char *)tried.given.origin.at);
     switch (call->asked) {
     case REPORT:
         printf("judge");
@@ -55,11 +81,14 @@ static void print_case(void)
     case LOOKUP:
         printf("lookup %" PRIu32 " %" PRId64 " %" PRId64 " %" PRId64, call->number, call->zoom, call->column, call->row);
         break;
+    case WRITE:
+        printf("write %zu", call->output_size);
+        break;
     }
     printf(" (fill %u", call->fill);
-    for (enum buffer buffer = LISTING; buffer < BUFFERS; buffer++)
-        if (has_buffer(call->asked, buffer))
-            printf(", %s of %zu octets %s", names[buffer], tried.lent[buffer].size, words_of_place(tried.lent[buffer]));
+    for (enum buffer buffer = GIVEN; buffer < BUFFERS; buffer++)
+        if (has_buffer(buffer))
+            printf(", %s of %zu octets %s", name_of(buffer), tried.lent[buffer].size, words_of_place(tried.lent[buffer]));
     printf(")");
 }
 
@@ -80,9 +109,10 @@ static void differs(const char *format, ...)
 
 static void print_counts(void)
 {
-    printf("compared %lu listings in %lu reports, %lu verdicts and %lu lookups, %lu of them with an answer too short: "
-           "%lu differences\n",
-           counts.listings, counts.reports, counts.verdicts, counts.lookups, counts.short_answers, counts.differences);
+    printf("compared %lu listings in %lu reports, %lu verdicts and %lu lookups, and the parts of %lu in %lu writes, of "
+           "which %lu wrote a listing that is accepted; %lu calls with an answer too short: %lu differences\n",
+           counts.listings, counts.calls[REPORT], counts.calls[VERDICT], counts.calls[LOOKUP], counts.parts,
+           counts.calls[WRITE], counts.written, counts.short_answers, counts.differences);
 }
 
 /*
@@ -115,11 +145,24 @@ static void compare_octets(enum buffer buffer, const uint8_t *must)
     while (lent->octets[at] == must[at])
         at++;
     size_t word = at / 4;
-    if (buffer == LISTING || 4 * word + 4 > lent->size)
-        differs("octet %zu of %s is %u, must be %u", at, names[buffer], lent->octets[at], must[at]);
+    if (buffer < OUTPUT || 4 * word + 4 > lent->size)
+        differs("octet %zu of %s is %u, must be %u", at, name_of(buffer), lent->octets[at], must[at]);
     else
-        differs("octet %zu of %s: word %zu is %" PRIu32 ", must be %" PRIu32, at, names[buffer], word,
+        differs("octet %zu of %s: word %zu is %" PRIu32 ", must be %" PRIu32, at, name_of(buffer), word,
                 desterlin_word(lent->octets, word), desterlin_word(must, word));
+}
+
+/* What a buffer must hold after the call. */
+static const uint8_t *octets_after(enum buffer buffer)
+{
+    switch (buffer) {
+    case OUTPUT:
+        return tried.call.output.at;
+    case ANSWER:
+        return tried.call.answer.at;
+    default:
+        return tried.given.string[buffer - GIVEN].at;
+    }
 }
 
 static void compare(uint32_t returned)
@@ -127,64 +170,112 @@ static void compare(uint32_t returned)
     const struct call *call = &tried.call;
     if (returned != call->returned)
         differs("returns %" PRIu32 ", must return %" PRIu32, returned, call->returned);
-    compare_octets(ANSWER, call->answer.at);
-    compare_octets(FINDINGS, call->findings.at);
-    compare_octets(LISTING, tried.listing.octets.at);
-    if (call->keeps_work && !keeps_fill(tried.lent[WORK]))
-        differs("writes to work, which it must not where it is refused or its answer too short");
-    for (enum buffer buffer = LISTING; buffer < BUFFERS; buffer++) {
+    for (enum buffer buffer = GIVEN; buffer < BUFFERS; buffer++) {
+        if (!has_buffer(buffer))
+            continue;
+        if (buffer != WORK)
+            compare_octets(buffer, octets_after(buffer));
+        else if (call->keeps_work && !keeps_fill(tried.lent[WORK]))
+            differs("writes to work, which it must not where it is refused or its answer too short");
         if (!keeps_sentinels_before(tried.lent[buffer]))
-            differs("writes before the start of %s", names[buffer]);
+            differs("writes before the start of %s", name_of(buffer));
         if (!keeps_sentinels_after(tried.lent[buffer]))
-            differs("writes past the end of %s", names[buffer]);
+            differs("writes past the end of %s", name_of(buffer));
     }
+}
+
+/* Has the call, which is a write, written a listing? */
+static int has_written(void)
+{
+    const struct call *call = &tried.call;
+    return call->returned == 1 && desterlin_word(call->answer.at, DESTERLIN_WRITE_NUMBER) == DESTERLIN_ACCEPTED;
+}
+
+/* What was written must be accepted as it stands in the buffer. 171 is asked, which looks at the contents alone. */
+static void read_back(void)
+{
+    uint8_t answer[DESTERLIN_VERDICT_ANSWER];
+    uint32_t octets = desterlin_word(tried.call.answer.at, DESTERLIN_WRITE_OCTETS);
+    desterlin_verdict(tried.lent[OUTPUT].octets, octets, 171, NULL, 0, answer, sizeof answer);
+    uint32_t number = desterlin_word(answer, DESTERLIN_VERDICT_NUMBER);
+    if (number != DESTERLIN_ACCEPTED)
+        differs("writes a listing that is then refused for reason %" PRIu32, number);
+    counts.written++;
+}
+
+static uint32_t returned_by_write(void)
+{
+    const struct lent *part = &tried.lent[GIVEN], *listing = &tried.lent[OUTPUT], *answer = &tried.lent[ANSWER];
+    return desterlin_write(part[0].octets, part[0].size, part[1].octets, part[1].size, part[2].octets, part[2].size,
+                           part[3].octets, part[3].size, part[4].octets, part[4].size, part[5].octets, part[5].size,
+                           part[6].octets, part[6].size, listing->octets, listing->size, answer->octets, answer->size);
 }
 
 static uint32_t returned_by_call(void)
 {
     const struct call *call = &tried.call;
-    const struct lent *listing = &tried.lent[LISTING], *findings = &tried.lent[FINDINGS];
+    const struct lent *listing = &tried.lent[GIVEN], *findings = &tried.lent[OUTPUT];
     const struct lent *work = &tried.lent[WORK], *answer = &tried.lent[ANSWER];
     switch (call->asked) {
     case REPORT:
-        counts.reports++;
         return desterlin_report(listing->octets, listing->size, findings->octets, findings->size, work->octets,
                                 work->size, answer->octets, answer->size);
     case VERDICT:
-        counts.verdicts++;
         return desterlin_verdict(listing->octets, listing->size, call->number, work->octets, work->size, answer->octets,
                                  answer->size);
-    default:
-        counts.lookups++;
+    case LOOKUP:
         return desterlin_lookup(listing->octets, listing->size, call->number, call->zoom, call->column, call->row,
                                 answer->octets, answer->size);
+    default:
+        return returned_by_write();
     }
 }
 
-/* Lends the buffers. The fill, which is any octet, chooses among the 81 ways to place them: so a case repeats exactly. */
+static size_t size_of(enum buffer buffer)
+{
+    switch (buffer) {
+    case OUTPUT:
+        return tried.call.output_size;
+    case WORK:
+        return tried.call.work_size;
+    case ANSWER:
+        return tried.call.answer_size;
+    default:
+        return tried.given.string[buffer - GIVEN].size;
+    }
+}
+
+/*
+ * Lends the buffers. The fill, which is any octet, chooses where they are placed: so a case repeats exactly. Mixed by
+ * this factor, the 256 fills have any two buffers in any two places.
+ */
 static void lend_buffers(const struct ground *grounds)
 {
-    const struct call *call = &tried.call;
-    const struct octets *listing = &tried.listing.octets;
-    const size_t sizes[BUFFERS] = { listing->size, call->findings_size, call->work_size, call->answer_size };
-    unsigned combination = call->fill;
-    for (enum buffer buffer = LISTING; buffer < BUFFERS; buffer++) {
-        enum place place = (enum place)(combination % PLACES);
-        tried.lent[buffer] = lend(grounds[buffer], sizes[buffer], place, call->fill);
+    uint8_t fill = tried.call.fill;
+    uint32_t combination = (fill * UINT32_C(0xc2b2ae35)) >> 8;
+    for (enum buffer buffer = GIVEN; buffer < BUFFERS; buffer++) {
+        if (!has_buffer(buffer))
+            continue;
+        tried.lent[buffer] = lend(grounds[buffer], size_of(buffer), (enum place)(combination % PLACES), fill);
         combination /= PLACES;
+        if (buffer < OUTPUT)
+            put_octets(tried.lent[buffer], tried.given.string[buffer - GIVEN].at);
     }
-    put_octets(tried.lent[LISTING], listing->at);
 }
 
 static void try_call(const struct ground *grounds)
 {
-    read_call(&tried.call);
+    read_call(&tried.given, &tried.call);
     lend_buffers(grounds);
     tried.is_calling = 1;
     uint32_t returned = returned_by_call();
     tried.is_calling = 0;
-    counts.short_answers += tried.call.returned == 0;
+    unsigned long differences = counts.differences;
     compare(returned);
+    counts.calls[tried.call.asked]++;
+    counts.short_answers += tried.call.returned == 0;
+    if (tried.call.asked == WRITE && counts.differences == differences && has_written())
+        read_back();
 }
 
 static void watch_for_faults(void)
@@ -197,14 +288,15 @@ static void watch_for_faults(void)
 int main(void)
 {
     struct ground grounds[BUFFERS];
-    for (enum buffer buffer = LISTING; buffer < BUFFERS; buffer++)
+    for (enum buffer buffer = GIVEN; buffer < BUFFERS; buffer++)
         grounds[buffer] = make_ground();
+    counts.differences = compare_beyond_a_word();
     watch_for_faults();
     read_mark();
-    while (read_listing(&tried.listing)) {
-        for (uint32_t i = 0; i < tried.listing.calls; i++)
+    while (read_given(&tried.given)) {
+        for (uint32_t i = 0; i < tried.given.calls; i++)
             try_call(grounds);
-        counts.listings++;
+        ++*(tried.given.strings == PARTS ? &counts.parts : &counts.listings);
     }
     print_counts();
     return counts.differences == 0 ? ALL_SAME : SOME_DIFFERENT;

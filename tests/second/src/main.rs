@@ -3,7 +3,7 @@
 use std::io::{self, Read, Write};
 use std::process::ExitCode;
 
-use second::calls::{lookup, verdict, Question, Verdict};
+use second::calls::{lookup, verdict, write, Parts, Question, Verdict};
 use second::{cases, coverage, desk, generate, samples, vectors};
 
 const USAGE: &str = "\
@@ -14,6 +14,9 @@ usage: second judge < LISTING
        second make SEED > LISTING
        second limit NUMBER > LISTING
        second full KIND TILES > LISTING
+       second parts SEED > PARTS
+       second cut < LISTING > PARTS
+       second write ROOM < PARTS
        second cases FIRST COUNT > CASES
        second cases-limits TILES > CASES
        second time KIND TILES
@@ -66,6 +69,9 @@ fn run(words: &[&str]) -> Result<Outcome, String> {
         ["make", seed] => well(generate::generate(number(seed)?).listing),
         ["limit", limit] => well(limit_listing(number(limit)?)?),
         ["full", kind, tiles] => well(full(kind, number(tiles)?)?),
+        ["parts", seed] => well(parts_as_octets(&generate::generate_parts(number(seed)?).parts)),
+        ["cut"] => well(parts_as_octets(&generate::cut(&input()?))),
+        ["write", room] => well(write_line(&parts_in(&input()?)?, number(room)?)),
         ["time", kind, tiles] => well(coverage::timing(&full(kind, number(tiles)?)?)),
         ["coverage", first, count] => {
             let table = coverage::table(number(first)?, number(count)?);
@@ -115,6 +121,28 @@ fn limit_listing(limit: usize) -> Result<Vec<u8>, String> {
     Ok(make())
 }
 
+/// Parts as the commands hand them on: each after its length, a u32.
+fn parts_as_octets(parts: &Parts) -> Vec<u8> {
+    let part = |part: &Vec<u8>| [&(part.len() as u32).to_le_bytes(), part.as_slice()].concat();
+    parts.iter().flat_map(part).collect()
+}
+
+fn parts_in(octets: &[u8]) -> Result<Parts, String> {
+    let mut rest = octets;
+    let mut parts = Parts::default();
+    for part in &mut parts {
+        let (length, after) = rest.split_first_chunk().ok_or("the parts break off")?;
+        let length = u32::from_le_bytes(*length) as usize;
+        let (octets, after) = after.split_at_checked(length).ok_or("the parts break off")?;
+        *part = octets.to_vec();
+        rest = after;
+    }
+    match rest {
+        [] => Ok(parts),
+        _ => Err("there is more than seven parts".to_string()),
+    }
+}
+
 /// Prints while it goes: the cases of some thousand listings are too many
 /// octets to gather first.
 fn streamed(
@@ -138,6 +166,13 @@ fn lookup_line(listing: &[u8], question: Question) -> String {
     match lookup(listing, question) {
         Ok(Some(row)) => format!("tile {row}\n"),
         Ok(None) => "tile -\n".to_string(),
+        Err(refusal) => format!("{}\n", desk::refused(refusal)),
+    }
+}
+
+fn write_line(parts: &Parts, room: usize) -> String {
+    match write(parts, room) {
+        Ok(listing) => format!("octets {}\n", listing.len()),
         Err(refusal) => format!("{}\n", desk::refused(refusal)),
     }
 }

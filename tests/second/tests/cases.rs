@@ -2,8 +2,8 @@
 //! what is expected of a call agrees with what the paper says of all calls.
 
 use second::calls::report;
-use second::cases::{calls, filled, write_seeds, Asked, Call, Expected};
-use second::generate::generate;
+use second::cases::{calls, filled, write_seeds, writes, Asked, Call, Expected};
+use second::generate::{generate, generate_parts};
 use second::listing::read;
 use second::rules::CODES;
 
@@ -63,13 +63,13 @@ fn each_listing_meets_every_code_and_one_that_is_none() {
 fn a_short_answer_and_a_refusal_leave_everything_else_as_it_was() {
     for (seed, listing, calls) in cases() {
         for call in calls {
-            let Expected { returned, findings, answer, keeps_work } = call.expected(&listing);
-            assert_eq!((findings.len(), answer.len()), (call.findings, call.answer));
+            let Expected { returned, output, answer, keeps_work } = call.expected(&listing);
+            assert_eq!((output.len(), answer.len()), (call.findings, call.answer));
             if returned == 0 {
                 assert_eq!(answer, filled(call.answer, call.fill), "seed {seed}");
             }
             if returned == 0 || read(&listing).is_err() {
-                assert_eq!(findings, filled(call.findings, call.fill), "seed {seed}");
+                assert_eq!(output, filled(call.findings, call.fill), "seed {seed}");
                 assert!(keeps_work || matches!(call.asked, Asked::Lookup(_)), "seed {seed}");
             }
         }
@@ -95,9 +95,12 @@ fn a_stream_depends_on_its_seeds_alone_and_ends_with_its_counts() {
     };
     let stream = written();
     assert!(stream == written());
-    assert!(stream.starts_with(b"cases 1\n"));
-    let made = (7..75).map(|seed| calls(seed, &generate(seed).listing).len());
-    let counts = [0, 68, made.sum::<usize>() as u32];
+    assert!(stream.starts_with(b"cases 2\n"));
+    let made = (7..75).map(|seed| {
+        let parts = generate_parts(seed).parts;
+        calls(seed, &generate(seed).listing).len() + writes(seed, &parts).len()
+    });
+    let counts = [0, 2 * 68, made.sum::<usize>() as u32];
     let end: Vec<u8> = counts.iter().flat_map(|count| count.to_le_bytes()).collect();
     assert!(stream.ends_with(&end));
 }

@@ -1,11 +1,14 @@
 //! Cases for the comparison with the proved library: the calls to make on a
-//! listing, and what each of them must return and leave in its buffers.
+//! listing or with parts, and what each of them must return and leave in its
+//! buffers.
 
 mod choice;
 mod stream;
+mod writes;
 
 pub use choice::calls;
 pub use stream::{write_limits, write_seeds};
+pub use writes::{writes, WriteCall, WRITE_ANSWER};
 
 use crate::calls::{lookup_call, report_call, verdict_call, Called, Question};
 use crate::listing::read;
@@ -34,7 +37,8 @@ pub struct Call {
 #[derive(Clone, Debug, PartialEq, Eq)]
 pub struct Expected {
     pub returned: u32,
-    pub findings: Vec<u8>,
+    /// The findings of a report, or the buffer that a write is lent.
+    pub output: Vec<u8>,
     pub answer: Vec<u8>,
     /// Must `work` keep its octets? An accepted call leaves them open.
     pub keeps_work: bool,
@@ -51,7 +55,7 @@ impl Call {
     pub fn expected(&self, listing: &[u8]) -> Expected {
         let findings = filled(self.findings, self.fill);
         let answer = filled(self.answer, self.fill);
-        let (Called { returned, answer }, findings) = match self.asked {
+        let (Called { returned, answer }, output) = match self.asked {
             Asked::Report => {
                 let called = report_call(listing, &findings, &answer);
                 (Called { returned: called.returned, answer: called.answer }, called.findings)
@@ -60,7 +64,7 @@ impl Call {
             Asked::Lookup(question) => (lookup_call(listing, question, &answer), findings),
         };
         let keeps_work = returned == 0 || self.is_refused_before_work(listing);
-        Expected { returned, findings, answer, keeps_work }
+        Expected { returned, output, answer, keeps_work }
     }
 
     /// Is the call refused? Only for the calls that have `work`.

@@ -4,42 +4,47 @@
 //! Numbers are little-endian. "Octets" are a u32, how many, and then they
 //! themselves.
 //!
-//! * the mark: `cases 1` and a line feed, eight octets;
-//! * for each listing: u32 1; octets, the command that makes it, in words;
-//!   octets, the listing; u32, how many calls; the calls;
-//! * the end: u32 0; u32, how many listings there were; u32, how many calls.
+//! * the mark: `cases 2` and a line feed, eight octets;
+//! * for each listing, and for each seven parts: u32, how many strings of
+//!   octets are given, 1 or 7; octets, the commands that make them, in words;
+//!   the strings, octets each; u32, how many calls; the calls;
+//! * the end: u32 0; u32, how many of these there were; u32, how many calls.
 //!
 //! A call:
 //!
-//! * u32, what it asks: 1 report, 2 verdict, 3 lookup;
+//! * u32, what it asks: 1 report, 2 verdict, 3 lookup, and with parts 4 write;
 //! * u32, the code of a verdict or the contents row of a lookup, else 0;
 //! * three i64, zoom, column and row of a lookup, else 0;
-//! * three u32, the lengths of findings, work and answer; 0 where the call has
-//!   no such buffer;
+//! * three u32, the lengths of output, work and answer, where output is the
+//!   findings of a report or the listing of a write; 0 where the call has no
+//!   such buffer;
 //! * u32, the fill: before the call the octet number i of each of these
 //!   buffers, counted from 0, is 37 * (i + fill) modulo 256;
 //! * u32, what the call must return;
 //! * u32, 1 where work must keep its octets, 0 where they are left open;
-//! * the octets of findings after the call, and then of answer: as many as the
+//! * the octets of output after the call, and then of answer: as many as the
 //!   lengths say.
 
 use std::io::{Result, Write};
 
-use super::{calls, Asked, Call};
-use crate::calls::Question;
-use crate::generate::{full, generate, FULL_KINDS, LIMITS};
+use super::{calls, writes, Asked, Call, Expected, WriteCall};
+use crate::calls::{Parts, Question};
+use crate::generate::{cut, full, generate, generate_parts, FULL_KINDS, LIMITS};
 use crate::listing::layout::TILES;
 use crate::listing::read;
 
-const MARK: &[u8; 8] = b"cases 1\n";
+const MARK: &[u8; 8] = b"cases 2\n";
 
-/// The listings of so many seeds from the first on, with their calls.
+/// The listings of so many seeds from the first on, with their calls, and the
+/// parts of the same seeds, with their writes.
 pub fn write_seeds(out: impl Write, first: u64, count: u64) -> Result<()> {
     let mut stream = Stream::begun(out)?;
     for seed in first..first.saturating_add(count) {
         let case = generate(seed);
         let origin = format!("make {seed}");
         stream.listing(&origin, &case.listing, &calls(seed, &case.listing))?;
+        let parts = generate_parts(seed).parts;
+        stream.parts(&format!("parts {seed}"), &parts, &writes(seed, &parts))?;
     }
     stream.ended()
 }
@@ -49,55 +54,67 @@ pub fn write_seeds(out: impl Write, first: u64, count: u64) -> Result<()> {
 const TILES_OF_A_FULL_LISTING: usize = 32_768;
 
 /// The listings at the limits and the full ones, with their calls, as far as
-/// they have no more tiles than these.
+/// they have no more tiles than these; and each cut into its parts.
 pub fn write_limits(out: impl Write, most_tiles: usize) -> Result<()> {
     let mut stream = Stream::begun(out)?;
     for (number, (_, make)) in LIMITS.iter().enumerate() {
         let listing = make();
         let tiles = read(&listing).map_or(0, |listing| listing.count(TILES));
         if tiles <= most_tiles {
-            let calls = calls(number as u64, &listing);
-            stream.listing(&format!("limit {number}"), &listing, &calls)?;
+            stream.listing_and_parts(&format!("limit {number}"), number as u64, &listing)?;
         }
     }
     let tiles = most_tiles.min(TILES_OF_A_FULL_LISTING);
     for kind in FULL_KINDS {
         let listing = full(kind, tiles).unwrap_or_default();
-        let calls = calls(tiles as u64, &listing);
-        stream.listing(&format!("full {kind} {tiles}"), &listing, &calls)?;
+        stream.listing_and_parts(&format!("full {kind} {tiles}"), tiles as u64, &listing)?;
     }
     stream.ended()
 }
 
 struct Stream<W: Write> {
     out: W,
-    listings: u32,
+    given: u32,
     calls: u32,
 }
 
 impl<W: Write> Stream<W> {
     fn begun(mut out: W) -> Result<Stream<W>> {
         out.write_all(MARK)?;
-        Ok(Stream { out, listings: 0, calls: 0 })
+        Ok(Stream { out, given: 0, calls: 0 })
     }
 
     fn ended(mut self) -> Result<()> {
-        let counts = [0, self.listings, self.calls];
+        let counts = [0, self.given, self.calls];
         self.words(&counts)?;
         self.out.flush()
     }
 
-    fn listing(&mut self, origin: &str, listing: &[u8], calls: &[Call]) -> Result<()> {
-        self.words(&[1])?;
+    /// What some calls are given to read: a listing, or seven parts.
+    fn given(&mut self, origin: &str, strings: &[&[u8]], calls: usize) -> Result<()> {
+        self.words(&[strings.len() as u32])?;
         self.octets(origin.as_bytes())?;
-        self.octets(listing)?;
-        self.words(&[calls.len() as u32])?;
-        for call in calls {
-            self.call(call, listing)?;
-        }
-        self.listings += 1;
-        self.calls += calls.len() as u32;
+        strings.iter().try_for_each(|string| self.octets(string))?;
+        self.words(&[calls as u32])?;
+        self.given += 1;
+        self.calls += calls as u32;
         Ok(())
+    }
+
+    fn listing(&mut self, origin: &str, listing: &[u8], calls: &[Call]) -> Result<()> {
+        self.given(origin, &[listing], calls.len())?;
+        calls.iter().try_for_each(|call| self.call(call, listing))
+    }
+
+    fn parts(&mut self, origin: &str, parts: &Parts, calls: &[WriteCall]) -> Result<()> {
+        self.given(origin, &parts.each_ref().map(Vec::as_slice), calls.len())?;
+        calls.iter().try_for_each(|call| self.write(call, parts))
+    }
+
+    fn listing_and_parts(&mut self, origin: &str, seed: u64, listing: &[u8]) -> Result<()> {
+        self.listing(origin, listing, &calls(seed, listing))?;
+        let parts = cut(listing);
+        self.parts(&format!("{origin} | second cut"), &parts, &writes(seed, &parts))
     }
 
     fn call(&mut self, call: &Call, listing: &[u8]) -> Result<()> {
@@ -111,13 +128,22 @@ impl<W: Write> Stream<W> {
         for number in [address.zoom, address.column, address.row] {
             self.out.write_all(&number.to_le_bytes())?;
         }
-        let lengths = [call.findings, call.work, call.answer].map(|length| length as u32);
-        self.words(&lengths)?;
-        let expected = call.expected(listing);
-        let keeps_work = u32::from(expected.keeps_work);
-        self.words(&[u32::from(call.fill), expected.returned, keeps_work])?;
-        self.out.write_all(&expected.findings)?;
-        self.out.write_all(&expected.answer)
+        self.buffers(call.work, call.fill, &call.expected(listing))
+    }
+
+    fn write(&mut self, call: &WriteCall, parts: &Parts) -> Result<()> {
+        // No number, and no address.
+        self.words(&[4, 0, 0, 0, 0, 0, 0, 0])?;
+        self.buffers(0, call.fill, &call.expected(parts))
+    }
+
+    /// The lengths of the buffers of a call, and what must become of them.
+    fn buffers(&mut self, work: usize, fill: u8, expected: &Expected) -> Result<()> {
+        let Expected { returned, output, answer, keeps_work } = expected;
+        self.words(&[output.len(), work, answer.len()].map(|length| length as u32))?;
+        self.words(&[u32::from(fill), *returned, u32::from(*keeps_work)])?;
+        self.out.write_all(output)?;
+        self.out.write_all(answer)
     }
 
     fn octets(&mut self, octets: &[u8]) -> Result<()> {

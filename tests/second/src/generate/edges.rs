@@ -4,7 +4,8 @@
 use super::{packs, small, Random};
 use crate::make::{span, Draft, Span, NULL};
 
-fn sound(random: &mut Random) -> Draft {
+/// A listing that is accepted.
+pub fn sound(random: &mut Random) -> Draft {
     match random.below(3) {
         0 => small::any(random),
         1 => small::overlapping(random),
@@ -36,7 +37,7 @@ fn any_text<'d>(random: &mut Random, draft: &'d mut Draft, table: usize) -> Opti
 }
 
 /// A text at the edge of a table of names with this many octets.
-fn edge_text(random: &mut Random, end: usize) -> Span {
+pub fn edge_text(random: &mut Random, end: usize) -> Span {
     let length = random.below(5).min(end);
     let max = u32::MAX;
     let texts = [
@@ -110,29 +111,33 @@ pub fn nearly_null(random: &mut Random) -> Vec<u8> {
     draft.listing()
 }
 
+/// What a contents row may have as srs_id, flag and spare: good and bad.
+pub fn edge_flags(random: &mut Random) -> (i64, u32, u32) {
+    random.pick(&[
+        (0, 0, 0),
+        (0, 1, 0),
+        (4326, 1, 0),
+        (i64::MIN, 1, 0),
+        (0, 2, 0),
+        (4326, 2, 0),
+        (-1, 3, 0),
+        (0, u32::MAX, 0),
+        (0, 1, 1),
+        (0, 0, 1 << 31),
+        (1, 0, 0),
+        (1 << 32, 0, 0),
+        (i64::MIN, 0, 0),
+    ])
+}
+
 fn set_flags(random: &mut Random, draft: &mut Draft) {
     for _ in 0..1 + random.below(3) {
         if draft.contents.is_empty() {
             return;
         }
         let row = random.below(draft.contents.len());
-        let (srs_id, flag, spare) = random.pick(&[
-            (0, 0, 0),
-            (0, 1, 0),
-            (4326, 1, 0),
-            (i64::MIN, 1, 0),
-            (0, 2, 0),
-            (4326, 2, 0),
-            (-1, 3, 0),
-            (0, u32::MAX, 0),
-            (0, 1, 1),
-            (0, 0, 1 << 31),
-            (1, 0, 0),
-            (1 << 32, 0, 0),
-            (i64::MIN, 0, 0),
-        ]);
         let contents = &mut draft.contents[row];
-        (contents.srs_id, contents.flag, contents.spare) = (srs_id, flag, spare);
+        (contents.srs_id, contents.flag, contents.spare) = edge_flags(random);
     }
 }
 

@@ -3,13 +3,13 @@
 
 use super::{packs, Random};
 use crate::listing::layout::{GREATEST_LISTING, SHAPES};
-use crate::make::{set_count, set_true_length, Draft};
+use crate::make::{set_count, set_true_length, span, Draft};
 
 /// A name and a maker.
 pub type Limit = (&'static str, fn() -> Vec<u8>);
 
 /// The listings at the limits, by name.
-pub static LIMITS: [Limit; 16] = [
+pub static LIMITS: [Limit; 17] = [
     ("table 1 at its most", || filled(1, 0)),
     ("table 2 at its most", || filled(2, 0)),
     ("table 3 at its most", || filled(3, 0)),
@@ -26,6 +26,7 @@ pub static LIMITS: [Limit; 16] = [
     ("table 7 above its most", || filled(7, 1)),
     ("9,762,880 octets", longest),
     ("9,762,881 octets", too_long),
+    ("a text outside in the last row", outside_at_last),
 ];
 
 /// A good pack with one table filled up to its most and so many rows more.
@@ -81,4 +82,15 @@ fn too_long() -> Vec<u8> {
     set_true_length(&mut octets);
     set_count(&mut octets, 7, SHAPES[6].most + 1);
     octets
+}
+
+/// The last of the most tiles has a name that ends one past the names.
+fn outside_at_last() -> Vec<u8> {
+    let mut draft = packs::good(&mut Random::new(5));
+    fill(&mut draft, 5, SHAPES[4].most as usize);
+    let end = draft.names.len();
+    if let Some(tile) = draft.tiles.last_mut() {
+        tile.table_name = span(end, 1);
+    }
+    draft.listing()
 }

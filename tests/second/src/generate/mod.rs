@@ -1,6 +1,6 @@
 //! A maker of listings to judge: good ones, ones with planted faults, ones in
-//! which everything collides, damaged ones, and ones at the limits of size.
-//! All are made from a seed alone.
+//! which everything collides, damaged ones, and ones at the limits of size; and
+//! of parts to write listings from. All are made from a seed alone.
 
 mod damage;
 mod dense;
@@ -8,6 +8,7 @@ mod edges;
 mod full;
 mod limits;
 mod packs;
+mod parts;
 mod plant;
 mod questions;
 mod random;
@@ -16,6 +17,7 @@ mod small;
 
 pub use full::{full, FULL_KINDS};
 pub use limits::LIMITS;
+pub use parts::{cut, generate_parts, parts_kind_names, PartsCase};
 pub use questions::{questions, Questions};
 pub use random::Random;
 
