@@ -4,7 +4,7 @@ pub mod layout;
 mod refusals;
 mod rows;
 
-pub use refusals::{read, Refusal};
+pub use refusals::{check_contents, check_texts, read, Refusal};
 pub use rows::{Contents, Extension, Extent, Matrix, MatrixSet, Reference, Tile};
 
 use layout::{SHAPES, TABLE_COUNT};
@@ -12,13 +12,18 @@ use layout::{SHAPES, TABLE_COUNT};
 /// "None", in every place where the paper gives a row that may be absent.
 pub const NONE: u32 = u32::MAX;
 
-/// An accepted listing, cut into its seven tables.
+/// The seven tables of a listing: of an accepted one, where [`read`] gave it.
 #[derive(Clone, Copy, Debug)]
 pub struct Listing<'a> {
     tables: [&'a [u8]; TABLE_COUNT],
 }
 
 impl<'a> Listing<'a> {
+    /// Tables as they are: nothing of them is checked.
+    pub fn of_tables(tables: [&'a [u8]; TABLE_COUNT]) -> Listing<'a> {
+        Listing { tables }
+    }
+
     /// The octets of one table, numbered 1 to 7 as in the paper.
     pub fn table(&self, number: usize) -> &'a [u8] {
         self.tables[number - 1]

@@ -80,11 +80,11 @@ fn cut_into_tables<'a>(
     if end != octets.len() {
         return Err(Refusal::at(6, NAMES, 0));
     }
-    Ok(Listing { tables: bounds.map(|(start, end)| &octets[start..end]) })
+    Ok(Listing::of_tables(bounds.map(|(start, end)| &octets[start..end])))
 }
 
 /// Reason 7: lowest table, then lowest row.
-fn check_texts(listing: &Listing) -> Result<(), Refusal> {
+pub fn check_texts(listing: &Listing) -> Result<(), Refusal> {
     let names_end = listing.names().len() as u64;
     for table in 1..NAMES {
         let texts = SHAPES[table - 1].texts;
@@ -107,7 +107,7 @@ fn is_text(row: &[u8], text: TextField, names_end: u64) -> bool {
 }
 
 /// Reason 8: lowest contents row.
-fn check_contents(listing: &Listing) -> Result<(), Refusal> {
+pub fn check_contents(listing: &Listing) -> Result<(), Refusal> {
     for (row, octets) in listing.row_octets(CONTENTS).enumerate() {
         let flag = u32_at(octets, CONTENTS_FLAG);
         let spare = u32_at(octets, CONTENTS_SPARE);

@@ -1,14 +1,18 @@
 //! What the made listings reach: every code found and not found, every
-//! refusal given and not given, every kind of listing. And how long judging
-//! takes.
+//! refusal given and not given, every kind of listing; and what the made parts
+//! reach. And how long judging takes.
+
+mod writes;
 
 use std::fmt;
 use std::time::Instant;
 
 use crate::calls::{lookup, report, verdict, Question};
-use crate::generate::{generate, kind_names, questions, LIMITS};
+use crate::generate::PartsCase;
+use crate::generate::{cut, generate, generate_parts, kind_names, questions, LIMITS};
 use crate::listing::{read, NONE};
 use crate::rules::{Finding, CODES};
+use writes::Writes;
 
 /// One line of the table: how many have what it tells of, and how many lack it.
 struct Line {
@@ -45,13 +49,16 @@ pub struct Table {
     refusals: Vec<Line>,
     lookups: Line,
     kinds: Vec<Line>,
+    writes: Writes,
 }
 
 const CODES_WITHOUT_ROW: [u32; 3] = [111, 112, 113];
-/// Refusals 1 to 8 are a listing's; 9 and 10 are a call's.
+/// Refusals 1 to 8 are a listing's; 9 and 10 are a call's. The writer's have
+/// lines of their own.
 const REFUSALS: u32 = 10;
 
-/// Makes the listings of so many seeds and the ones at the limits, and counts.
+/// Makes the listings and parts of so many seeds and the listings at the limits,
+/// and counts.
 pub fn table(first: u64, count: u64) -> Table {
     let mut table = Table::new();
     for seed in first..first.saturating_add(count) {
@@ -65,9 +72,13 @@ pub fn table(first: u64, count: u64) -> Table {
         for question in questions.lookups {
             table.count_lookup(&case.listing, question);
         }
+        table.writes.count(seed, &generate_parts(seed));
     }
-    for (name, make) in &LIMITS {
-        table.count_listing(name, &make());
+    for (number, (kind, make)) in (0..).zip(&LIMITS) {
+        let listing = make();
+        table.count_listing(kind, &listing);
+        let parts = cut(&listing);
+        table.writes.count(number, &PartsCase { kind, parts, listing: Some(listing) });
     }
     table
 }
@@ -90,6 +101,7 @@ impl Table {
             refusals: (1..=REFUSALS).map(|number| Line::new(format!("refusal {number}"))).collect(),
             lookups: Line::new("lookups with a tile"),
             kinds: kind_names().chain(limits).map(kind_line).collect(),
+            writes: Writes::new(),
         }
     }
 
@@ -141,7 +153,7 @@ impl Table {
     fn lines(&self) -> impl Iterator<Item = &Line> {
         let counted = self.codes.iter().chain(&self.without_row);
         let counted = counted.chain(&self.untestable).chain(&self.refusals);
-        counted.chain([&self.lookups]).chain(&self.kinds)
+        counted.chain([&self.lookups]).chain(&self.kinds).chain(self.writes.lines())
     }
 
     /// The lines on which a count is 0 that must not be.
@@ -157,12 +169,12 @@ fn kind_line(name: &str) -> Line {
 
 impl fmt::Display for Table {
     fn fmt(&self, out: &mut fmt::Formatter<'_>) -> fmt::Result {
-        writeln!(out, "{:<32} {:>8} {:>8}", "", "have", "lack")?;
+        writeln!(out, "{:<40} {:>8} {:>8}", "", "have", "lack")?;
         for line in self.lines() {
             let (name, have) = (&line.name, line.have);
             match line.may_lack_none {
-                true => writeln!(out, "{name:<32} {have:>8}")?,
-                false => writeln!(out, "{name:<32} {have:>8} {:>8}", line.lack)?,
+                true => writeln!(out, "{name:<40} {have:>8}")?,
+                false => writeln!(out, "{name:<40} {have:>8} {:>8}", line.lack)?,
             }
         }
         for name in self.empty_lines() {
