@@ -1,12 +1,11 @@
 /*
- * Damaged listings through the three calls, to see that each keeps its promises about the buffers that it is lent.
+ * Damaged listings through report, verdict and lookup, and their parts through write (fuzz_write.h), to see that each call
+ * keeps its promises about the buffers that it is lent (fuzz_lent.h).
  *
  *     fuzz COUNT SEED LISTING ..
  *
- * Input i is decided by SEED + i alone, so `fuzz 1 NUMBER LISTING ..` repeats the one that a message names. Each buffer
- * ends at a wall, with sentinels before it, and starts at any alignment; under AddressSanitizer what lies before it is
- * forbidden while it is lent. That the answers are right is not tested here
- * (tests/second does that), only that the three calls agree with each other.
+ * Input i is decided by SEED + i alone, so `fuzz 1 NUMBER LISTING ..` repeats the one that a message names. That the
+ * answers are right is not tested here (tests/second does that), only that the calls agree with each other.
  *
  * Exit status: 0 every promise kept; 1 one broken; 2 called wrongly.
  */
@@ -18,18 +17,11 @@
 
 #include "damage.h"
 #include "desterlin.h"
+#include "fuzz_lent.h"
+#include "fuzz_write.h"
 #include "walled.h"
 
-enum {
-    MOST_LISTINGS = 64,
-    LISTING_ROOM = 66000,
-    FINDINGS_ROOM = 60000,
-    ANSWER_ROOM = 40,
-    SENTINELS = 64,
-    FILLINGS = 251,
-    SMALL_LISTING = 4096,
-    MOST_REASON = 10
-};
+enum { MOST_LISTINGS = 64, FINDINGS_ROOM = 60000, SMALL_LISTING = 4096, MOST_REASON = 10 };
 
 static const uint32_t codes[] = {
 #define CODE(code, table, words) code,
@@ -37,23 +29,11 @@ static const uint32_t codes[] = {
 #undef CODE
 };
 
-/* A buffer in its room, filled from this place of the filling on. */
-struct lent {
-    uint8_t *octets;
-    size_t size;
-    size_t fill;
-};
-
 static struct {
     size_t count;
     uint8_t *octets[MOST_LISTINGS];
     size_t size[MOST_LISTINGS];
 } listings;
-
-/* What the buffers of one kind are lent from: they end at the wall, and the one that is lent now starts here. */
-struct room {
-    uint8_t *wall, *start;
-};
 
 static struct {
     struct room listing, findings, work, answer;
@@ -64,20 +44,7 @@ static struct {
     unsigned long reasons[MOST_REASON + 1], with_findings, without_findings, tiles_found;
 } tally;
 
-static volatile uint64_t input_number;
 static uint8_t original[LISTING_ROOM];
-
-/* What buffers hold before a call: octets that differ from their neighbours, and from call to call by the place from
-   which they are taken. */
-static uint8_t filling[DESTERLIN_WORK_FULL + SENTINELS + FILLINGS];
-
-static void check(int is_kept, const char *promise)
-{
-    if (!is_kept) {
-        printf("input %" PRIu64 ": broken promise: %s\n", input_number, promise);
-        exit(1);
-    }
-}
 
 /* A touch of a wall, or a trap of the sanitizer: say which input it was, then fail as one fails without this. */
 static void tell_input(int number)
@@ -95,48 +62,15 @@ static void tell_found(void)
     fprintf(stderr, "input %" PRIu64 ": the sanitizer's words are above\n", input_number);
 }
 
-static struct lent lend(struct chance *chance, struct room *room, size_t size)
-{
-    struct lent lent = { room->wall - size, size, draw_below(chance, FILLINGS) };
-    uint8_t *sentinels = lent.octets - SENTINELS;
-    uint8_t *allowed = room->start < sentinels ? room->start : sentinels;
-    allow(sentinels, SENTINELS + size);
-    memcpy(sentinels, filling + lent.fill, SENTINELS + size);
-    forbid(allowed, (size_t)(lent.octets - allowed));
-    room->start = lent.octets;
-    /* An empty buffer may have any pointer. */
-    if (size == 0 && draw_below(chance, 2) == 0)
-        lent.octets = NULL;
-    return lent;
-}
-
-/* Are the octets from this place on, and the sentinels before the buffer, as they were lent? */
-static int keeps(struct lent lent, size_t from)
-{
-    if (lent.octets == NULL)
-        return 1;
-    allow(lent.octets - SENTINELS, SENTINELS);
-    int is_kept = memcmp(lent.octets - SENTINELS, filling + lent.fill, SENTINELS) == 0
-        && memcmp(lent.octets + from, filling + lent.fill + SENTINELS + from, lent.size - from) == 0;
-    forbid(lent.octets - SENTINELS, SENTINELS);
-    return is_kept;
-}
-
 static struct lent lend_input(struct chance *chance)
 {
-    static uint8_t draft[LISTING_ROOM];
     size_t which = draw_below(chance, listings.count);
     /* Long listings take long; they come seldom. */
     for (int tries = 0; tries < 8 && listings.size[which] > SMALL_LISTING; tries++)
         which = draw_below(chance, listings.count);
-    memcpy(draft, listings.octets[which], listings.size[which]);
-    size_t size = damage(chance, draft, listings.size[which], sizeof draft);
-    struct lent listing = lend(chance, &rooms.listing, size);
-    if (size > 0) {
-        memcpy(listing.octets, draft, size);
-        memcpy(original, draft, size);
-    }
-    return listing;
+    memcpy(original, listings.octets[which], listings.size[which]);
+    size_t size = damage(chance, original, listings.size[which], sizeof original);
+    return lend_octets(chance, &rooms.listing, original, size);
 }
 
 static size_t draw_work_size(struct chance *chance)
@@ -148,27 +82,6 @@ static size_t draw_work_size(struct chance *chance)
     }
 }
 
-static size_t draw_answer_size(struct chance *chance, size_t whole)
-{
-    return draw_below(chance, 8) == 0 ? draw_below(chance, whole) : whole + draw_below(chance, ANSWER_ROOM - whole + 1);
-}
-
-static int is_listing_kept(struct lent listing)
-{
-    return (listing.size == 0 || memcmp(listing.octets, original, listing.size) == 0) && keeps(listing, listing.size);
-}
-
-/* What holds for number and place in every answer. */
-static void check_place(struct lent answer, size_t at, uint32_t most_reason)
-{
-    uint32_t number = desterlin_word(answer.octets, at);
-    uint32_t table = desterlin_word(answer.octets, at + 1), row = desterlin_word(answer.octets, at + 2);
-    check(number <= most_reason, "no reason above the call's own");
-    check(number >= DESTERLIN_REFUSED_COUNT && number <= DESTERLIN_REFUSED_FLAG ? table >= 1 && table <= 7
-                                                                                : table == 0 && row == 0,
-          "a place for reasons 5 to 8 alone");
-}
-
 /* A report; the answer, if there is one, is left in `words`. Returns whether there is one. */
 static int try_report(struct chance *chance, struct lent listing, struct lent findings, size_t work_size,
                       uint32_t words[5])
@@ -177,14 +90,15 @@ static int try_report(struct chance *chance, struct lent listing, struct lent fi
     struct lent answer = lend(chance, &rooms.answer, draw_answer_size(chance, DESTERLIN_REPORT_ANSWER));
     uint32_t returned = desterlin_report(listing.octets, listing.size, findings.octets, findings.size,
                                          work.octets, work.size, answer.octets, answer.size);
-    check(is_listing_kept(listing), "report: the listing is never written");
+    check(keeps_octets(listing, original), "report: the listing is never written");
     check(returned == (answer.size >= DESTERLIN_REPORT_ANSWER), "report: 1, or 0 for too short an answer buffer");
     if (returned == 0) {
         check(keeps(answer, 0) && keeps(findings, 0) && keeps(work, 0), "report: with 0 nothing is written");
         return 0;
     }
     check(keeps(answer, DESTERLIN_REPORT_ANSWER), "report: octets past the answer keep their values");
-    check_place(answer, DESTERLIN_REPORT_NUMBER, DESTERLIN_REFUSED_FLAG);
+    check_place(answer, DESTERLIN_REPORT_NUMBER);
+    check(desterlin_word(answer.octets, DESTERLIN_REPORT_NUMBER) <= DESTERLIN_REFUSED_FLAG, "report: no reason above 8");
     for (size_t i = 0; i < 5; i++)
         words[i] = desterlin_word(answer.octets, i);
     uint32_t total = words[DESTERLIN_REPORT_TOTAL], written = words[DESTERLIN_REPORT_WRITTEN];
@@ -226,14 +140,14 @@ static void check_verdict(struct chance *chance, struct lent listing, const uint
     struct lent answer = lend(chance, &rooms.answer, draw_answer_size(chance, DESTERLIN_VERDICT_ANSWER));
     uint32_t returned = desterlin_verdict(listing.octets, listing.size, code, work.octets, work.size,
                                           answer.octets, answer.size);
-    check(is_listing_kept(listing), "verdict: the listing is never written");
+    check(keeps_octets(listing, original), "verdict: the listing is never written");
     check(returned == (answer.size >= DESTERLIN_VERDICT_ANSWER), "verdict: 1, or 0 for too short an answer buffer");
     if (returned == 0) {
         check(keeps(answer, 0) && keeps(work, 0), "verdict: with 0 nothing is written");
         return;
     }
     check(keeps(answer, DESTERLIN_VERDICT_ANSWER), "verdict: octets past the answer keep their values");
-    check_place(answer, DESTERLIN_VERDICT_NUMBER, DESTERLIN_REFUSED_UNKNOWN_CODE);
+    check_place(answer, DESTERLIN_VERDICT_NUMBER);
     uint32_t number = desterlin_word(answer.octets, DESTERLIN_VERDICT_NUMBER);
     uint32_t ruling = desterlin_word(answer.octets, DESTERLIN_VERDICT_RULING);
     check(keeps(work, number == DESTERLIN_ACCEPTED ? work.size : 0),
@@ -284,14 +198,14 @@ static void check_lookup(struct chance *chance, struct lent listing, const uint3
     struct lent answer = lend(chance, &rooms.answer, draw_answer_size(chance, DESTERLIN_LOOKUP_ANSWER));
     uint32_t returned = desterlin_lookup(listing.octets, listing.size, contents_row, address[0], address[1], address[2],
                                          answer.octets, answer.size);
-    check(is_listing_kept(listing), "lookup: the listing is never written");
+    check(keeps_octets(listing, original), "lookup: the listing is never written");
     check(returned == (answer.size >= DESTERLIN_LOOKUP_ANSWER), "lookup: 1, or 0 for too short an answer buffer");
     if (returned == 0) {
         check(keeps(answer, 0), "lookup: with 0 nothing is written");
         return;
     }
     check(keeps(answer, DESTERLIN_LOOKUP_ANSWER), "lookup: octets past the answer keep their values");
-    check_place(answer, DESTERLIN_LOOKUP_NUMBER, DESTERLIN_REFUSED_NO_TILES);
+    check_place(answer, DESTERLIN_LOOKUP_NUMBER);
     uint32_t number = desterlin_word(answer.octets, DESTERLIN_LOOKUP_NUMBER);
     uint32_t tile = desterlin_word(answer.octets, DESTERLIN_LOOKUP_TILE);
     check(is_accepted ? number == DESTERLIN_ACCEPTED || number == DESTERLIN_REFUSED_NO_TILES
@@ -333,16 +247,11 @@ static void try_input(uint64_t number)
           "report: a short buffer has the first findings");
     check_verdict(&chance, listing, findings.octets, report);
     check_lookup(&chance, listing, report);
+    check_write(&chance, original, listing.size, report);
 
     tally.reasons[report[DESTERLIN_REPORT_NUMBER]]++;
     if (report[DESTERLIN_REPORT_NUMBER] == DESTERLIN_ACCEPTED)
         ++*(report[DESTERLIN_REPORT_TOTAL] == 0 ? &tally.without_findings : &tally.with_findings);
-}
-
-static struct room make_room(size_t most)
-{
-    uint8_t *start = walled(SENTINELS + most);
-    return (struct room){ start + SENTINELS + most, start };
 }
 
 static void read_listing(const char *path)
@@ -378,12 +287,11 @@ int main(int count, char **words)
     }
     for (int i = 3; i < count; i++)
         read_listing(words[i]);
-    for (size_t i = 0; i < sizeof filling; i++)
-        filling[i] = (uint8_t)(37 * i);
     rooms.listing = make_room(LISTING_ROOM);
     rooms.findings = make_room(FINDINGS_ROOM);
     rooms.work = make_room(DESTERLIN_WORK_FULL);
     rooms.answer = make_room(ANSWER_ROOM);
+    make_rooms_for_writes();
     signal(SIGSEGV, tell_input);
     signal(SIGBUS, tell_input);
     signal(SIGILL, tell_input);
@@ -392,6 +300,7 @@ int main(int count, char **words)
     for (unsigned long i = 0; i < inputs; i++)
         try_input(seed + i);
     print_tally(inputs);
+    print_writes();
     for (size_t i = 0; i < listings.count; i++)
         free(listings.octets[i]);
     return 0;
