@@ -1,8 +1,8 @@
 /*
- * How much stack the three calls take: each runs in a thread whose stack was painted before, and the paint that is gone
- * is counted. What the thread takes for itself is counted with it.
+ * How much stack the calls take: each runs in a thread whose stack was painted before, and the paint that is gone is
+ * counted. What the thread takes for itself is counted with it.
  *
- *     stack LISTING ..
+ *     stack LISTING ..        each of them is one that is accepted
  *
  * Exit status: 0 no call takes more than the 64 KiB of the promise; 1 one does; 2 it could not be measured.
  */
@@ -24,7 +24,14 @@ enum { SHORT_LISTING = 65536 };
 static uint8_t listing[DESTERLIN_LISTING_MOST];
 static uint8_t findings[1 << 20];
 static uint8_t work[DESTERLIN_WORK_FULL];
+static uint8_t written[DESTERLIN_LISTING_MOST];
 static size_t listing_size;
+
+static void failed(const char *what)
+{
+    fprintf(stderr, "stack: %s\n", what);
+    exit(2);
+}
 
 static void *report(void *unused)
 {
@@ -52,10 +59,21 @@ static void *lookup(void *unused)
     return unused;
 }
 
-static void failed(const char *what)
+/* Writes the parts of the listing: a table ends where the next one starts. */
+static void *write_parts(void *unused)
 {
-    fprintf(stderr, "stack: %s\n", what);
-    exit(2);
+    uint8_t answer[DESTERLIN_WRITE_ANSWER];
+    size_t at[8];
+    for (size_t i = 0; i < 7; i++)
+        at[i] = desterlin_word(listing, 3 + 2 * i);
+    at[7] = listing_size;
+#define PART(i) listing + at[i], at[(i) + 1] - at[i]
+    desterlin_write(PART(0), PART(1), PART(2), PART(3), PART(4), PART(5), PART(6), written, sizeof written, answer,
+                    sizeof answer);
+#undef PART
+    if (desterlin_word(answer, DESTERLIN_WRITE_OCTETS) != listing_size)
+        failed("the parts of a listing are not written");
+    return unused;
 }
 
 /* The octets of stack that a thread touches. */
@@ -91,7 +109,7 @@ int main(int count, char **words)
     static const struct {
         const char *name;
         void *(*body)(void *);
-    } calls[] = { { "report", report }, { "verdict", verdict }, { "lookup", lookup } };
+    } calls[] = { { "report", report }, { "verdict", verdict }, { "lookup", lookup }, { "write", write_parts } };
     size_t most = 0;
     for (int i = 1; i < count; i++) {
         read_listing(words[i]);
