@@ -1,14 +1,23 @@
-/* Times the three calls on one listing: bench LISTING RUNS. The least of the runs, in milliseconds, one line:
- * read (a lookup that the reader accepts and 10 then refuses), report, verdict 541, a lookup that misses; and the total.
- * The findings and the workspace are not cleared between runs; nothing else is measured. */
+/* Times the calls on one listing: bench LISTING RUNS. The least of the runs, in milliseconds, one line: read (a lookup that
+ * the reader accepts and 10 then refuses), report, verdict 541, a lookup that misses, a write of the listing's parts, a copy
+ * of the listing by memcpy; and the total. The buffers are not cleared between runs; nothing else is measured. */
 #define _POSIX_C_SOURCE 199309L
 #include <stdio.h>
 #include <stdlib.h>
+#include <string.h>
 #include <time.h>
 
 #include "desterlin.h"
 
-enum { WORK = 2097152, FINDINGS = 12 * 1048576 };
+enum { WORK = 2097152, FINDINGS = 12 * 1048576, LISTING = 16777216, TABLES = 7 };
+enum call { READ, REPORT, VERDICT, LOOKUP, WRITE, COPY, CALLS };
+
+static uint8_t *listing, *findings, *work, *written, answer[20];
+static size_t size;
+
+/* The parts of the listing: a table ends where the next one starts. */
+static const uint8_t *part[TABLES];
+static size_t part_size[TABLES];
 
 static double now(void) {
     struct timespec t;
@@ -16,41 +25,80 @@ static double now(void) {
     return t.tv_sec * 1e3 + t.tv_nsec / 1e6;
 }
 
-static uint8_t *whole_file(const char *name, size_t *size) {
+static uint8_t *octets(size_t count) {
+    uint8_t *lent = malloc(count);
+    if (lent == NULL) {
+        perror("bench");
+        exit(2);
+    }
+    return lent;
+}
+
+static void read_listing(const char *name) {
     FILE *file = fopen(name, "rb");
-    uint8_t *octets = malloc(16777216);
-    if (file == NULL || octets == NULL) {
+    if (file == NULL) {
         perror(name);
         exit(2);
     }
-    *size = fread(octets, 1, 16777216, file);
+    listing = octets(LISTING);
+    size = fread(listing, 1, LISTING, file);
     fclose(file);
-    return octets;
+    size_t end = size;
+    for (int i = TABLES - 1; i >= 0; i--) {
+        size_t start = desterlin_word(listing, 3 + 2 * i);
+        part[i] = listing + start;
+        part_size[i] = end - start;
+        end = start;
+    }
 }
 
-static void call(int which, const uint8_t *listing, size_t size, uint8_t *findings, uint8_t *work, uint8_t *answer) {
-    if (which == 0) desterlin_lookup(listing, size, 4294967295u, 0, 0, 0, answer, 16);
-    if (which == 1) desterlin_report(listing, size, findings, FINDINGS, work, WORK, answer, 20);
-    if (which == 2) desterlin_verdict(listing, size, 541, work, WORK, answer, 20);
-    if (which == 3) desterlin_lookup(listing, size, 0, -1, -1, -1, answer, 16);
+static void make(enum call call) {
+    switch (call) {
+    case READ:
+        desterlin_lookup(listing, size, DESTERLIN_NONE, 0, 0, 0, answer, 16);
+        break;
+    case REPORT:
+        desterlin_report(listing, size, findings, FINDINGS, work, WORK, answer, 20);
+        break;
+    case VERDICT:
+        desterlin_verdict(listing, size, 541, work, WORK, answer, 20);
+        break;
+    case LOOKUP:
+        desterlin_lookup(listing, size, 0, -1, -1, -1, answer, 16);
+        break;
+    case WRITE:
+        desterlin_write(part[0], part_size[0], part[1], part_size[1], part[2], part_size[2], part[3], part_size[3],
+                        part[4], part_size[4], part[5], part_size[5], part[6], part_size[6], written, LISTING, answer, 16);
+        break;
+    default:
+        memcpy(written, listing, size);
+    }
+}
+
+static double least_time(enum call call, int runs) {
+    double least = 1e9;
+    for (int run = 0; run < runs; run++) {
+        double start = now();
+        make(call);
+        double took = now() - start;
+        if (took < least) least = took;
+    }
+    return least;
 }
 
 int main(int words, char **word) {
-    size_t size;
-    uint8_t answer[20], *findings = malloc(FINDINGS), *work = malloc(WORK);
-    if (words != 3 || findings == NULL || work == NULL) return 2;
-    uint8_t *listing = whole_file(word[1], &size);
-    for (int which = 0; which < 4; which++) {
-        double least = 1e9;
-        for (int run = 0; run < atoi(word[2]); run++) {
-            double start = now();
-            call(which, listing, size, findings, work, answer);
-            double took = now() - start;
-            if (took < least) least = took;
-        }
-        printf("%.3f ", least);
+    if (words != 3) return 2;
+    findings = octets(FINDINGS);
+    work = octets(WORK);
+    written = octets(LISTING);
+    read_listing(word[1]);
+    for (enum call call = READ; call < CALLS; call++) printf("%.3f ", least_time(call, atoi(word[2])));
+    make(WRITE);
+    if (desterlin_word(answer, DESTERLIN_WRITE_OCTETS) != size || memcmp(written, listing, size) != 0) {
+        fprintf(stderr, "bench: the parts do not write back\n");
+        return 1;
     }
-    desterlin_report(listing, size, findings, FINDINGS, work, WORK, answer, 20);
-    printf("%u\n", (unsigned)(answer[12] | answer[13] << 8 | answer[14] << 16) | (unsigned)answer[15] << 24);
+    make(REPORT);
+    printf("%u\n", (unsigned)desterlin_word(answer, DESTERLIN_REPORT_TOTAL));
     return 0;
 }
