@@ -158,6 +158,11 @@ fn check_counts(tally: &mut Tally) {
     }
     let full = [8_192, 10_240, 12_288, 262_144, 8_388_608, 32_768, 1_048_576];
     tally.written("1.6: all at their most", &zeros(full), 9_762_880, "octets 9762880");
+    let mut more = full;
+    more[6] = 1_048_577;
+    tally.written("1.6: 5 where the reader would say 2", &zeros(more), AMPLE, "refused 5 7 0");
+    more[4] = 8_388_640;
+    tally.written("1.6: and a tile more", &zeros(more), AMPLE, "refused 5 5 0");
     let two = zeros([0, 0, 12_336, 0, 0, 32_800, 0]);
     tally.written("5: the first such table", &two, AMPLE, "refused 5 3 0");
     let mut text = hay_with(2, 4, 9);
