@@ -12,7 +12,7 @@ use Rattle.octets.specs.Octets.{le32, word, filled}
 use Rattle.octets.specs.BufferLaws.{filled-more}
 use Rattle.octets.specs.OctetLaws.{le32-word, le32-past, word-back}
 use Rattle.octets.specs.Gather.{gather}
-use Rattle.octets.specs.GatherLaws.{gather-around, gather-even}
+use Rattle.octets.specs.GatherLaws.{gather-around, gather-even, gather-agree}
 use Rattle.listing.specs.Listing.{row, version, total, count, offset, start}
 use Rattle.listing.specs.Header.{startOf, two, pair, pairs, header}
 
@@ -116,3 +116,12 @@ module _ (v : ℕ) (c z : ℕ → ℕ) where
   unfolding offset two
   offset-read zero t l m h = absurd (omega (arith, l))
   offset-read (suc k) t l m h = let g = second-word (suc k) t (omega arith) in g .1 ∙ second-read (c (suc k)) (startOf z (suc k)) (g .0) h
+
+-- counts and sizes that agree on the seven tables make the same header
+pub header-agree : (v : ℕ) (c d y z : ℕ → ℕ) → ((k : ℕ) → 1 ≤ k → k < 8 → c k ≡ d k) → ((k : ℕ) → k < 8 → y k ≡ z k) → header v c y ≡ header v d z
+unfolding pairs
+header-agree v c d y z h g = gather-agree 8 (pair v c y) (pair v d z) each
+  where
+    each : (k : ℕ) → k < 8 → pair v c y k ≡ pair v d z k
+    each zero l = rw (start-agree y z 8 g)
+    each (suc k) l = rw (h (suc k) (omega arith) l, start-agree y z (suc k) (λ j m. g j (omega arith)))

@@ -107,6 +107,17 @@ free-both (x ∷ xs) ys f g zero = f zero
 free-both (x ∷ xs) ys f g (suc i) = free-both xs ys (λ j. f (suc j)) g i
 
 -- ---- the answer
+-- of one kind, turned into another
+pub decide-turned : {A B : Type 0} (refuse : ℕ → ℕ → ℕ → A) (turn : ℕ → ℕ → ℕ → B) (f : A → B) → ((n t r : ℕ) → f (refuse n t r) ≡ turn n t r)
+    → (xs : List Reason) (o : A) → f (decideBy refuse xs o) ≡ decideBy turn xs (f o)
+decide-turned refuse turn f h [] o = refl
+decide-turned refuse turn f h (x ∷ xs) o = by (x .there) (decide-turned refuse turn f h xs o)
+  where
+    by : (b : Bool) → f (decideBy refuse xs o) ≡ decideBy turn xs (f o)
+        → f (cond b (refuse (x .number) (x .atTable) (x .atRow)) (decideBy refuse xs o)) ≡ cond b (turn (x .number) (x .atTable) (x .atRow)) (decideBy turn xs (f o))
+    by true e = h (x .number) (x .atTable) (x .atRow)
+    by false e = e
+
 module _ {A : Type 0} (refuse : ℕ → ℕ → ℕ → A) where
   -- past reasons that are not there, the others decide
   pub decide-past : (xs : List Reason) (o : A) (k : ℕ) → Passed xs k → decideBy refuse xs o ≡ decideBy refuse (drop k xs) o
@@ -134,31 +145,17 @@ module _ {A : Type 0} (refuse : ℕ → ℕ → ℕ → A) where
   decide-both (x ∷ xs) ys o = ap (cond (x .there) (refuse (x .number) (x .atTable) (x .atRow))) (decide-both xs ys o)
 
   -- what a check of them has said
+  told : A → Checked → A
+  told o Clean = o
+  told o (Fault n t r) = refuse n t r
+
   pub decide-fault : (xs : List Reason) (o : A) (n t r : ℕ) → checked xs ≡ Fault n t r → decideBy refuse xs o ≡ refuse n t r
-  unfolding checked
-  decide-fault [] o n t r e = absurd (omega (arith, ap faults e))
-    where
-      faults : Checked → ℕ
-      faults Clean = 0
-      faults (Fault n t r) = 1
-  decide-fault (x ∷ xs) o n t r e = by (x .there) e (decide-fault xs o n t r)
-    where
-      by : (b : Bool) → cond b (Fault (x .number) (x .atTable) (x .atRow)) (decideBy Fault xs Clean) ≡ Fault n t r
-          → (decideBy Fault xs Clean ≡ Fault n t r → decideBy refuse xs o ≡ refuse n t r)
-          → cond b (refuse (x .number) (x .atTable) (x .atRow)) (decideBy refuse xs o) ≡ refuse n t r
-      by true q f = cc
-      by false q f = f q
+  unfolding checked told
+  decide-fault xs o n t r e = sym (decide-turned Fault refuse (told o) (λ n t r. refl) xs Clean) ∙ ap (told o) e
 
   pub decide-clean : (xs : List Reason) (o : A) → checked xs ≡ Clean → decideBy refuse xs o ≡ o
-  unfolding checked
-  decide-clean [] o e = refl
-  decide-clean (x ∷ xs) o e = by (x .there) e (decide-clean xs o)
-    where
-      by : (b : Bool) → cond b (Fault (x .number) (x .atTable) (x .atRow)) (decideBy Fault xs Clean) ≡ Clean
-          → (decideBy Fault xs Clean ≡ Clean → decideBy refuse xs o ≡ o)
-          → cond b (refuse (x .number) (x .atTable) (x .atRow)) (decideBy refuse xs o) ≡ o
-      by true q f = absurd (let z : _≡_ {A = ℕ} 0 1 = cc in omega (arith, z))
-      by false q f = f q
+  unfolding checked told
+  decide-clean xs o e = sym (decide-turned Fault refuse (told o) (λ n t r. refl) xs Clean) ∙ ap (told o) e
 
 -- ---- its number
 module _ {A : Type 0} (refuse : ℕ → ℕ → ℕ → A) (num : A → ℕ) (says : (n t r : ℕ) → num (refuse n t r) ≡ n) where
@@ -204,6 +201,18 @@ given-exactly refuse num says xs place o k a z l = (λ e. here (exactly .0 e), �
     here g =
         let q : g .0 ≡ k = sym (a .found (g .0) (there-within xs (g .0) (g .1 .there))) ∙ ap place (g .2) ∙ a .found k l in
         subst (λ (i : ℕ). Given xs i) q (g .1)
+
+-- and no number is given where none is there alone
+pub none-given : {A : Type 0} (refuse : ℕ → ℕ → ℕ → A) (num : A → ℕ) (says : (n t r : ℕ) → num (refuse n t r) ≡ n)
+    (xs : List Reason) (place : ℕ → ℕ) (o : A) → Apart xs place → num (decideBy refuse xs o) ≡ 0 → Free xs
+none-given refuse num says xs place o a e = by (given-or-none xs)
+  where
+    by : ((k : ℕ) × Given xs k) ⊎ Free xs → Free xs
+    by (inl g) =
+        let l : g .0 < length xs = there-within xs (g .0) (g .1 .there) in
+        let z : numberAt xs (g .0) ≡ 0 = sym (given-number refuse num says xs o (g .0) (g .1)) ∙ e in
+        absurd (omega (arith, l, ap place z, a .found (g .0) l, a .other))
+    by (inr f) = f
 
 -- ---- whether it is a refusal
 module _ {A : Type 0} (refuse : ℕ → ℕ → ℕ → A) (good : A → Bool) (says : (n t r : ℕ) → good (refuse n t r) ≡ false) where

@@ -18,11 +18,11 @@ use Rattle.octets.specs.BufferLaws.{sets-append, filled-more}
 use Rattle.octets.specs.Search.{first}
 use Rattle.octets.specs.SearchLaws.{finds, misses}
 use Rattle.octets.specs.Gather.{gather}
-use Rattle.octets.specs.GatherLaws.{gather-around, gather-agree}
+use Rattle.octets.specs.GatherLaws.{gather-around}
 use Rattle.listing.specs.Listing.{row, most, numbered, rows}
 use Rattle.listing.specs.TableLaws.{numbered-none}
-use Rattle.listing.specs.Header.{listed, startOf, pair, pairs, header}
-use Rattle.listing.specs.HeaderLaws.{start-gather, start-agree, header-length}
+use Rattle.listing.specs.Header.{listed, startOf, header}
+use Rattle.listing.specs.HeaderLaws.{start-gather, start-agree, header-length, header-agree}
 use Rattle.listing.specs.Refusals.{rowReasons, checked}
 use Rattle.listing.specs.ReasonLaws.{thereAt, answerBy, Passed, pasts, decide-past, decide-stop, decide-both, decide-fault, decide-clean}
 use Rattle.listing.specs.declared.Checked.{Checked}
@@ -72,19 +72,11 @@ module _ (ps : ℕ → List ℕ) (w : Sized ps) where
   sizes-at zero h = sym (ap length (w .none))
   sizes-at (suc k) h = numbers-at (sizeOf ps) (suc k) (omega arith) h
 
-  starts : (k : ℕ) → k ≤ 8 → startOf (listed (numbers (sizeOf ps))) k ≡ startOf (sizeOf ps) k
-  starts k h = start-agree (listed (numbers (sizeOf ps))) (sizeOf ps) k (λ j l. sizes-at j (omega arith))
-
   pub length-is : (xs : List ℕ) (n : ℕ) → xs ≡ numbers (sizeOf ps) → n ≡ startOf (listed xs) 8 → n ≡ length (written ps)
-  length-is xs n q r = r ∙ ap (λ (ys : List ℕ). startOf (listed ys) 8) q ∙ starts 8 (omega arith) ∙ sym (written-length ps)
-
-  each : (k : ℕ) → k < 8 → pair 1 (listed (numbers (countOf ps))) (listed (numbers (sizeOf ps))) k ≡ pair 1 (countOf ps) (sizeOf ps) k
-  each zero l = rw (starts 8 (omega arith))
-  each (suc k) l = rw (numbers-at (countOf ps) (suc k) (omega arith) l, starts (suc k) (omega arith))
+  length-is xs n q r = r ∙ ap (λ (ys : List ℕ). startOf (listed ys) 8) q ∙ start-agree (listed (numbers (sizeOf ps))) (sizeOf ps) 8 sizes-at ∙ sym (written-length ps)
 
   alike : header 1 (listed (numbers (countOf ps))) (listed (numbers (sizeOf ps))) ≡ header 1 (countOf ps) (sizeOf ps)
-  unfolding pairs
-  alike = gather-agree 8 (pair 1 (listed (numbers (countOf ps))) (listed (numbers (sizeOf ps)))) (pair 1 (countOf ps) (sizeOf ps)) each
+  alike = header-agree 1 (listed (numbers (countOf ps))) (countOf ps) (listed (numbers (sizeOf ps))) (sizeOf ps) (numbers-at (countOf ps)) sizes-at
 
   -- the header and then the parts are the listing
   pub listing-put : (b₀ b₁ b₂ cs zs : List ℕ) → cs ≡ numbers (countOf ps) → zs ≡ numbers (sizeOf ps) → length (written ps) ≤ length b₀

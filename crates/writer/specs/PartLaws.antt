@@ -14,12 +14,12 @@ use Rattle.octets.specs.BufferLaws.{part-between}
 use Rattle.octets.specs.Search.{first}
 use Rattle.octets.specs.SearchLaws.{first-lowest}
 use Rattle.octets.specs.Gather.{gather}
-use Rattle.octets.specs.GatherLaws.{gather-around, gather-agree}
+use Rattle.octets.specs.GatherLaws.{gather-around}
 use Rattle.listing.specs.Listing.{row, most, count, offset, start, table, rows}
 use Rattle.listing.specs.TableLaws.{Seven, Short, tables-seven}
 use Rattle.listing.specs.ListingLaws.{table-length, table-rows, count-most, header-and-tables, header-back}
-use Rattle.listing.specs.Header.{startOf, pair, pairs, header}
-use Rattle.listing.specs.HeaderLaws.{start-gather, start-agree, start-read, start-grows, header-length, count-read, offset-read}
+use Rattle.listing.specs.Header.{startOf, header}
+use Rattle.listing.specs.HeaderLaws.{start-gather, start-agree, start-read, start-grows, header-length, count-read, offset-read, header-agree}
 use Rattle.listing.specs.Refusals.{outcome, isAccepted}
 use Rattle.writer.specs.Parts.{sizeOf, countOf, joined, written}
 
@@ -54,17 +54,17 @@ module _ (ps : ℕ → List ℕ) (w : Sized ps) where
   unfolding sizeOf
   size-most k l h = omega (arith, w .whole k l h, mul-le-mul-left (row k) (w .few k l h))
 
-  size-none : ps 0 ≡ [] → sizeOf ps 0 ≡ 0
+  size-none : sizeOf ps 0 ≡ 0
   unfolding sizeOf
-  size-none z = ap length z
+  size-none = ap length (w .none)
 
   -- "2 can't occur": the sum of all tables at their most
-  pub start-most : ps 0 ≡ [] → startOf (sizeOf ps) 8 ≤ 9762880
+  pub start-most : startOf (sizeOf ps) 8 ≤ 9762880
   unfolding startOf row most
-  start-most z =
+  start-most =
       omega (
         arith,
-        size-none z,
+        size-none,
         size-most 1 (omega arith) (omega arith),
         size-most 2 (omega arith) (omega arith),
         size-most 3 (omega arith) (omega arith),
@@ -79,7 +79,7 @@ module _ (ps : ℕ → List ℕ) (w : Sized ps) where
   count-small k l h = omega (arith, w .few k l h, most-small k h)
 
   pub start-small : (k : ℕ) → k ≤ 8 → startOf (sizeOf ps) k < 2 ^ 32
-  start-small k h = omega (arith, start-grows (sizeOf ps) k 8 h, start-most (w .none))
+  start-small k h = omega (arith, start-grows (sizeOf ps) k 8 h, start-most)
 
   pub size-small : (k : ℕ) → k ≤ 7 → sizeOf ps k < 2 ^ 32
   unfolding startOf
@@ -92,7 +92,7 @@ module _ (ps : ℕ → List ℕ) (w : Sized ps) where
 -- ---- the reader finds them
 module _ (ps : ℕ → List ℕ) (v : Seven ps) (w : Sized ps) where
   pub written-most : length (written ps) ≤ 9762880
-  written-most = omega (arith, written-length ps, start-most ps w (v .none))
+  written-most = omega (arith, written-length ps, start-most ps w)
 
   pub count-written : (k : ℕ) → 1 ≤ k → k ≤ 7 → count (written ps) k ≡ countOf ps k
   unfolding written joined
@@ -145,13 +145,8 @@ module _ (s : List ℕ) (a : isAccepted (outcome s) ≡ true) where
   unfolding countOf
   counts k l h = table-rows s a k l (omega arith)
 
-  each : (k : ℕ) → k < 8 → pair 1 (countOf (table s)) (sizeOf (table s)) k ≡ pair 1 (count s) (λ j. row j * count s j) k
-  each zero l = rw (start-agree (sizeOf (table s)) (λ j. row j * count s j) 8 sizes)
-  each (suc k) l = rw (counts (suc k) (omega arith) l, start-agree (sizeOf (table s)) (λ j. row j * count s j) (suc k) (λ j m. sizes j (omega arith)))
-
   alike : header 1 (countOf (table s)) (sizeOf (table s)) ≡ header 1 (count s) (λ k. row k * count s k)
-  unfolding pairs
-  alike = gather-agree 8 (pair 1 (countOf (table s)) (sizeOf (table s))) (pair 1 (count s) (λ k. row k * count s k)) each
+  alike = header-agree 1 (countOf (table s)) (count s) (sizeOf (table s)) (λ k. row k * count s k) counts sizes
 
   -- they make the same octets again
   pub written-back : ((k : ℕ) → getD s k 0 < 256) → written (table s) ≡ s

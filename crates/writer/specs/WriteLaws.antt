@@ -2,8 +2,8 @@
 use Prim.Native.Nat.{ℕ, zero, suc, _+_, _*_, _%_, _^_, _<_, _≤_}
 use mathlib.Core.Path.{_≡_, refl, sym, ap, _∙_, subst}
 use mathlib.Core.List.{List, [], _∷_, _++_, map}
-use mathlib.Core.Bool.{Bool, true, false, cond, not, _&&_, false≢true}
-use mathlib.Core.Logic.{_⊎_, inl, inr, _↔_, ⊎-elim}
+use mathlib.Core.Bool.{Bool, true, false, not, _&&_}
+use mathlib.Core.Logic.{_⊎_, inl, inr, _↔_}
 use native.Mathlib.Nat.{div-add-mod, mul-mod-right}
 use native.Mathlib.Omega.{arith}
 use borrow.Author.Tests.{lt-ltb, le-ltb, eq-eqb, eqb-true, ltb-false, not-false}
@@ -18,7 +18,7 @@ use Rattle.listing.specs.TableLaws.{Seven}
 use Rattle.listing.specs.Header.{startOf}
 use Rattle.listing.specs.HeaderLaws.{version-read, total-read, count-read}
 use Rattle.listing.specs.Refusals.{Reason, over, moved, headerReasons, rowReasons, decideBy, decide, outcome, isAccepted}
-use Rattle.listing.specs.ReasonLaws.{thereAt, numberAt, answerBy, Free, Given, given-or-none, free-left, free-right, free-both, decide-stop, decide-none, decide-both, Apart, given-exactly, good-exactly}
+use Rattle.listing.specs.ReasonLaws.{numberAt, answerBy, Free, Given, given-or-none, free-left, free-right, free-both, decide-stop, decide-none, decide-both, decide-turned, Apart, given-exactly, none-given, good-exactly}
 use Rattle.listing.specs.RefusalLaws.{reasons, accepted-exactly}
 use Rattle.listing.specs.declared.Outcome.{Outcome}
 use Rattle.listing.specs.declared.Outcome.the-variants as reader
@@ -40,7 +40,7 @@ module _ (ps : ℕ → List ℕ) where
   unfolding crowded countOf
   few-at k l e = ltb-false (most k) (rows k (ps k)) (simp (lt-ltb 0 k l) at e)
 
-  -- neither is there exactly where the parts are sized
+  -- where neither is there, the parts are sized
   pub sized : ps 0 ≡ [] → any (ragged ps) 8 ≡ false → any (crowded ps) 8 ≡ false → Sized ps
   sized z e f = record {
     none = z;
@@ -61,6 +61,7 @@ module _ (ps : ℕ → List ℕ) where
   none-crowded-at w zero l = refl
   none-crowded-at w (suc k) l = simp (lt-ltb 0 (suc k) (omega arith), le-ltb (most (suc k)) (rows (suc k) (ps (suc k))) (w .few (suc k) (omega arith) (omega arith)))
 
+  -- and of sized parts neither is
   pub sizes-none : Sized ps → Free (sizeReasons ps)
   unfolding sizeReasons
   sizes-none w zero = any-none (ragged ps) 8 (none-ragged-at w)
@@ -134,17 +135,8 @@ module _ (ps : ℕ → List ℕ) (v : Seven ps) (w : Sized ps) where
       decide-both Refused (sizeReasons ps) (rowReasons ps ++ (shortReason ps room ∷ [])) (Octets (length (written ps)))
       ∙ decide-none Refused (sizeReasons ps) (decideBy Refused (rowReasons ps ++ (shortReason ps room ∷ [])) (Octets (length (written ps)))) (sizes-none ps w)
       ∙ decide-both Refused (rowReasons ps) (shortReason ps room ∷ []) (Octets (length (written ps)))
-      ∙ alike (rowReasons ps) ∙ ap (λ (o : Outcome). refusalOr o (roomAnswer ps room)) (sym rows-decide)
-    where
-      alike : (xs : List Reason) → decideBy Refused xs (roomAnswer ps room) ≡ refusalOr (decide xs (reader.Accepted (layout (written ps)))) (roomAnswer ps room)
-      alike [] = refl
-      alike (x ∷ xs) = by (x .there) (alike xs)
-        where
-          by : (b : Bool) → decideBy Refused xs (roomAnswer ps room) ≡ refusalOr (decide xs (reader.Accepted (layout (written ps)))) (roomAnswer ps room)
-              → cond b (Refused (x .number) (x .atTable) (x .atRow)) (decideBy Refused xs (roomAnswer ps room))
-              ≡ refusalOr (cond b (reader.Refused (x .number) (x .atTable) (x .atRow)) (decide xs (reader.Accepted (layout (written ps))))) (roomAnswer ps room)
-          by true e = refl
-          by false e = e
+      ∙ sym (decide-turned reader.Refused Refused (λ (o : Outcome). refusalOr o (roomAnswer ps room)) (λ n t r. refl) (rowReasons ps) (reader.Accepted (layout (written ps))))
+      ∙ ap (λ (o : Outcome). refusalOr o (roomAnswer ps room)) (sym rows-decide)
 
 -- "5 .. as the reader would give" it: where a count is a word, the reader's own test of the listing put together
 pub count-as-reader : (ps : ℕ → List ℕ) (k : ℕ) → 1 ≤ k → k ≤ 7 → countOf ps k < 2 ^ 32 → over (written ps) k ≡ crowded ps k
@@ -253,16 +245,10 @@ module _ (ps : ℕ → List ℕ) (room : ℕ) where
 
   -- where no number is given, they are written
   pub number-none : numberIn (writeAnswer ps room) ≡ 0 → writeAnswer ps room ≡ Octets (length (written ps))
-  unfolding writeReasons sizeReasons rowReasons
-  number-none e = ⊎-elim (λ h. h) (λ (g : (k : ℕ) × Given (writeReasons ps room) k). absurd (some (g .0) (g .1 .there) (ap numberIn (sym (refused-place (g .0) (g .1))) ∙ e))) written-or-refused
-    where
-      some : (k : ℕ) → thereAt (writeReasons ps room) k ≡ true → numberIn (answerBy Refused (writeReasons ps room) k (Octets (length (written ps)))) ≡ 0 → ⊥
-      some zero t z = omega (arith, z)
-      some (suc zero) t z = omega (arith, z)
-      some (suc (suc zero)) t z = omega (arith, z)
-      some (suc (suc (suc zero))) t z = omega (arith, z)
-      some (suc (suc (suc (suc zero)))) t z = omega (arith, z)
-      some (suc (suc (suc (suc (suc k))))) t z = absurd (false≢true t)
+  unfolding writeAnswer
+  number-none e =
+      decide-none Refused (writeReasons ps room) (Octets (length (written ps)))
+      (none-given Refused numberIn (λ n t r. refl) (writeReasons ps room) place (Octets (length (written ps))) apart e)
 
 -- ---- one answer, and one buffer
 pub write-one : (ps : ℕ → List ℕ) (b b₁ b₂ : List ℕ) (r q : Written) → WriteOf ps b r b₁ → WriteOf ps b q b₂ → (r ≡ q) × (b₁ ≡ b₂)
