@@ -19,8 +19,7 @@ static const struct beyond {
     { DESTERLIN_NAME_OCTETS, UINT64_C(1) << 32, DESTERLIN_REFUSED_COUNT },
     { DESTERLIN_TILES, (UINT64_C(1) << 32) + 32, DESTERLIN_REFUSED_COUNT },
     { DESTERLIN_TILES, (UINT64_C(1) << 32) + 1, DESTERLIN_REFUSED_PART },
-    { DESTERLIN_TILES, (UINT64_C(1) << 37) + 32, DESTERLIN_REFUSED_COUNT }, /* 2^32 + 1 rows */
-    { DESTERLIN_REFERENCE_SYSTEMS, UINT64_C(1) << 37, DESTERLIN_REFUSED_COUNT },
+    { DESTERLIN_REFERENCE_SYSTEMS, UINT64_C(1) << 32, DESTERLIN_REFUSED_COUNT },
 };
 
 /* Octets that may be read, all of them 0. Their lengths decide, so they take no memory; NULL where a machine has not even
