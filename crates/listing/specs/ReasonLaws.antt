@@ -202,7 +202,7 @@ given-exactly refuse num says xs place o k a z l = (λ e. here (exactly .0 e), �
         let q : g .0 ≡ k = sym (a .found (g .0) (there-within xs (g .0) (g .1 .there))) ∙ ap place (g .2) ∙ a .found k l in
         subst (λ (i : ℕ). Given xs i) q (g .1)
 
--- and no number is given where none is there alone
+-- and where no number is given, none of them is there
 pub none-given : {A : Type 0} (refuse : ℕ → ℕ → ℕ → A) (num : A → ℕ) (says : (n t r : ℕ) → num (refuse n t r) ≡ n)
     (xs : List Reason) (place : ℕ → ℕ) (o : A) → Apart xs place → num (decideBy refuse xs o) ≡ 0 → Free xs
 none-given refuse num says xs place o a e = by (given-or-none xs)

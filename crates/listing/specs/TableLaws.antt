@@ -76,7 +76,7 @@ pub numbered-none : (ts : List (List ℕ)) → numbered ts 0 ≡ []
 unfolding numbered nth
 numbered-none ts = refl
 
--- ---- seven octet strings
+-- ---- seven octet strings by their numbers
 pub numbered-seven : (ts : List (List ℕ)) → length ts ≡ 7 → Seven (numbered ts)
 unfolding numbered nth
 numbered-seven ts h = record { none = refl; past = past }
@@ -84,7 +84,7 @@ numbered-seven ts h = record { none = refl; past = past }
     past : (k : ℕ) → 8 ≤ k → nth ([] ∷ ts) k ≡ []
     past k l = let g : length ([] ∷ ts) ≤ k = omega (arith, h) in List·getD-eq-default ([] ∷ ts) [] g
 
--- are the tables of a listing that has them by their numbers
+-- a listing that has them so has them as its tables, one after the other
 pub tables-are : (s : List ℕ) (ts : List (List ℕ)) → length ts ≡ 7 → table s ≡ numbered ts → tablesOf s ≡ ts
 unfolding tablesOf numbered nth
 tables-are s ts h e =

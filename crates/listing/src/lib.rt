@@ -1,4 +1,4 @@
-// The reader of a listing: refused under one reason, or its seven tables.
+// The reader of a listing: refused under one reason, or its seven tables. And what a writer needs of it: the check of rows, the header.
 ghost use mathlib.Core.Path.{_≡_};
 ghost use Prim.Native.Nat.{_+_, _<_};
 ghost use Rattle.listing.specs.Listing.{count, offset};

@@ -21,6 +21,6 @@ numbers f = 0 ∷ f 1 ∷ f 2 ∷ f 3 ∷ f 4 ∷ f 5 ∷ f 6 ∷ f 7 ∷ []
 unfoldable pub joined : (ℕ → List ℕ) → ℕ → List ℕ
 joined ps k = gather k ps
 
--- "turns six row tables and the name octets into one listing": the header, from their counts, and then the parts
+-- "turns six row tables and the name octets, each lent, into one listing": the header, from their counts, and then the parts
 unfoldable pub written : (ℕ → List ℕ) → List ℕ
 written ps = header 1 (countOf ps) (sizeOf ps) ++ joined ps 8
