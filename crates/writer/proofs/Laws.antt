@@ -27,28 +27,35 @@ use Rattle.listing.specs.Refusals.{rowReasons, checked}
 use Rattle.listing.specs.ReasonLaws.{thereAt, answerBy, Passed, pasts, decide-past, decide-stop, decide-both, decide-fault, decide-clean}
 use Rattle.listing.specs.declared.Checked.{Checked}
 use Rattle.listing.specs.declared.Checked.the-variants.{Clean, Fault}
-use Rattle.writer.specs.Parts.{sizeOf, countOf, numbers, joined, written}
+use Rattle.writer.specs.Parts.{sizeOf, countOf, measured, numbers, joined, written}
 use Rattle.writer.specs.PartLaws.{Sized, size-small, count-small, written-length}
-use Rattle.writer.specs.Writing.{ragged, crowded, sizeReasons, shortReason, writeReasons, roomAnswer, sizedAnswer, writeAnswer, givenOf, WriteOf}
+use Rattle.writer.specs.Writing.{ragged, crowded, flawed, sizeReasons, shortReason, writeReasons, roomAnswer, sizedAnswer, writeAnswer, givenOf, WriteOf}
 use Rattle.writer.specs.WriteLaws.{sized, octets-sized, octets-fit}
+use Rattle.writer.specs.declared.Measure.{Measure}
+use Rattle.writer.specs.declared.Measure.the-variants as measure
+use Rattle.writer.specs.declared.Flaw.{Flaw}
+use Rattle.writer.specs.declared.Flaw.the-variants.{Ragged, Crowded}
 use Rattle.writer.specs.declared.Written.{Written}
 use Rattle.writer.specs.declared.Written.the-variants.{Octets, Refused}
 
 -- ---- a part that the code has taken: its octets and its rows
 module _ (ps : ℕ → List ℕ) (t : List ℕ) (k : ℕ) (q : t ≡ ps k) where
-  pub size-is : length t ≡ sizeOf ps k
-  unfolding sizeOf
-  size-is = ap length q
-
-  pub count-is : (n : ℕ) → n ≡ rows k t → n ≡ countOf ps k
-  unfolding countOf
-  count-is n u = u ∙ ap (rows k) q
-
   pub size-fits : Sized ps → k ≤ 7 → Fits w32 (length t)
-  size-fits w h = record { fits = omega (arith, size-is, size-small ps w k h) }
+  unfolding sizeOf
+  size-fits w h = record { fits = omega (arith, ap length q, size-small ps w k h) }
 
   pub count-fits : Sized ps → (n : ℕ) → n ≡ rows k t → 1 ≤ k → k ≤ 7 → Fits w32 n
-  count-fits w n u l h = record { fits = omega (arith, count-is n u, count-small ps w k l h) }
+  unfolding countOf
+  count-fits w n u l h = record { fits = omega (arith, u ∙ ap (rows k) q, count-small ps w k l h) }
+
+  module _ (m : Measure) where
+    pub octets-are : m ≡ measure.Octets → length t ≡ measured m ps k
+    unfolding measured sizeOf
+    octets-are e = rw e (ap length q)
+
+    pub rows-are : (n : ℕ) → m ≡ measure.Rows → n ≡ rows k t → n ≡ measured m ps k
+    unfolding measured countOf
+    rows-are n e u = rw e (u ∙ ap (rows k) q)
 
 -- ---- numbers, as an array has them
 pub numbers-are : (f : ℕ → ℕ) (x₁ x₂ x₃ x₄ x₅ x₆ x₇ : ℕ) → x₁ ≡ f 1 → x₂ ≡ f 2 → x₃ ≡ f 3 → x₄ ≡ f 4 → x₅ ≡ f 5 → x₆ ≡ f 6 → x₇ ≡ f 7
@@ -72,16 +79,17 @@ module _ (ps : ℕ → List ℕ) (w : Sized ps) where
   sizes-at zero h = sym (ap length (w .none))
   sizes-at (suc k) h = numbers-at (sizeOf ps) (suc k) (omega arith) h
 
-  pub length-is : (xs : List ℕ) (n : ℕ) → xs ≡ numbers (sizeOf ps) → n ≡ startOf (listed xs) 8 → n ≡ length (written ps)
+  pub length-is : (xs : List ℕ) (n : ℕ) → xs ≡ numbers (measured measure.Octets ps) → n ≡ startOf (listed xs) 8 → n ≡ length (written ps)
+  unfolding measured
   length-is xs n q r = r ∙ ap (λ (ys : List ℕ). startOf (listed ys) 8) q ∙ start-agree (listed (numbers (sizeOf ps))) (sizeOf ps) 8 sizes-at ∙ sym (written-length ps)
 
   alike : header 1 (listed (numbers (countOf ps))) (listed (numbers (sizeOf ps))) ≡ header 1 (countOf ps) (sizeOf ps)
   alike = header-agree 1 (listed (numbers (countOf ps))) (countOf ps) (listed (numbers (sizeOf ps))) (sizeOf ps) (numbers-at (countOf ps)) sizes-at
 
   -- the header and then the parts are the listing
-  pub listing-put : (b₀ b₁ b₂ cs zs : List ℕ) → cs ≡ numbers (countOf ps) → zs ≡ numbers (sizeOf ps) → length (written ps) ≤ length b₀
+  pub listing-put : (b₀ b₁ b₂ cs zs : List ℕ) → cs ≡ numbers (measured measure.Rows ps) → zs ≡ numbers (measured measure.Octets ps) → length (written ps) ≤ length b₀
       → b₁ ≡ filled (header 1 (listed cs) (listed zs)) b₀ → b₂ ≡ sets b₁ 64 (joined ps 8) → b₂ ≡ filled (written ps) b₀
-  unfolding written
+  unfolding written measured
   listing-put b₀ b₁ b₂ cs zs p q h r u =
       filled-more (header 1 (countOf ps) (sizeOf ps)) (joined ps 8) b₀ b₁ b₂ 64
       (r ∙ ap (λ (xs : List ℕ). filled (header 1 (listed xs) (listed zs)) b₀) p ∙ ap (λ (xs : List ℕ). filled (header 1 (listed (numbers (countOf ps))) (listed xs)) b₀) q ∙ ap (λ (xs : List ℕ). filled xs b₀) alike)
@@ -139,21 +147,18 @@ parts-whole ps b d k l h e = e ∙ ap (λ (n : ℕ). sets b 64 (joined ps n)) (l
 
 -- ---- 11 and 5 at a table that there is
 module _ (ps : ℕ → List ℕ) where
-  pub ragged-none : ragged ps 0 ≡ false
-  unfolding ragged
-  ragged-none = refl
+  pub flawed-none : (f : Flaw) → flawed f ps 0 ≡ false
+  unfolding flawed ragged crowded
+  flawed-none Ragged = refl
+  flawed-none Crowded = refl
 
-  pub crowded-none : crowded ps 0 ≡ false
-  unfolding crowded
-  crowded-none = refl
+  pub ragged-of : (f : Flaw) (k n : ℕ) (t : List ℕ) → f ≡ Ragged → 1 ≤ k → t ≡ ps k → n ≡ row k → not (eqb (length t % n) 0) ≡ flawed f ps k
+  unfolding flawed ragged sizeOf
+  ragged-of f k n t r l q e = rw r (simp (lt-ltb 0 k l) (cc))
 
-  pub ragged-of : (k n : ℕ) (t : List ℕ) → 1 ≤ k → t ≡ ps k → n ≡ row k → not (eqb (length t % n) 0) ≡ ragged ps k
-  unfolding ragged sizeOf
-  ragged-of k n t l q e = simp (lt-ltb 0 k l) (cc)
-
-  pub crowded-of : (k m n : ℕ) (t : List ℕ) → 1 ≤ k → m ≡ most k → t ≡ ps k → n ≡ rows k t → ltb m n ≡ crowded ps k
-  unfolding crowded countOf
-  crowded-of k m n t l e q f = simp (lt-ltb 0 k l) (cc)
+  pub crowded-of : (f : Flaw) (k m n : ℕ) (t : List ℕ) → f ≡ Crowded → 1 ≤ k → m ≡ most k → t ≡ ps k → n ≡ rows k t → ltb m n ≡ flawed f ps k
+  unfolding flawed crowded countOf
+  crowded-of f k m n t c l e q g = rw c (simp (lt-ltb 0 k l) (cc))
 
 -- ---- the reasons as the code meets them
 -- the place, by numbers that equal its own
@@ -190,7 +195,8 @@ module _ (ps : ℕ → List ℕ) (room : ℕ) (r : Written) where
 
 pub ruleset steps = (pasts, placed, finds, misses, needs)
 
-pub sized-by : (ts : List (List ℕ)) (k m : ℕ) → k ≡ first (ragged (numbered ts)) 8 → 8 ≤ k → m ≡ first (crowded (numbered ts)) 8 → 8 ≤ m → Sized (numbered ts)
+pub sized-by : (ts : List (List ℕ)) (k m : ℕ) → k ≡ first (flawed Ragged (numbered ts)) 8 → 8 ≤ k → m ≡ first (flawed Crowded (numbered ts)) 8 → 8 ≤ m → Sized (numbered ts)
+unfolding flawed
 sized-by ts k m e l f h = sized (numbered ts) (numbered-none ts) (misses (ragged (numbered ts)) 8 k e l) (misses (crowded (numbered ts)) 8 m f h)
 
 -- ---- the promise

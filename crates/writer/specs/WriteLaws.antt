@@ -23,7 +23,7 @@ use Rattle.listing.specs.RefusalLaws.{reasons, accepted-exactly}
 use Rattle.listing.specs.declared.Outcome.{Outcome}
 use Rattle.listing.specs.declared.Outcome.the-variants as reader
 use Rattle.writer.specs.Parts.{sizeOf, countOf, joined, written}
-use Rattle.writer.specs.PartLaws.{Sized, written-length, written-most, start-small, count-written, offset-written, start-written, tables-written, tables-sized, written-back}
+use Rattle.writer.specs.PartLaws.{Sized, written-length, written-most, start-small, count-small, offset-written, start-written, tables-written, tables-sized, written-back}
 use Rattle.writer.specs.Writing.{ragged, crowded, sizeReasons, shortReason, writeReasons, roomAnswer, writeAnswer, numberIn, octetsIn, givenOf, WriteOf}
 use Rattle.writer.specs.declared.Written.{Written}
 use Rattle.writer.specs.declared.Written.the-variants.{Octets, Refused}
@@ -74,13 +74,16 @@ abbrev pub refusalOr : Outcome → Written → Written
 refusalOr (reader.Accepted l) o = o
 refusalOr (reader.Refused n t r) o = Refused n t r
 
+-- "5 .. as the reader would give" it: where a count is a word, the reader's own test of the listing put together
+pub count-as-reader : (ps : ℕ → List ℕ) (k : ℕ) → 1 ≤ k → k ≤ 7 → countOf ps k < 2 ^ 32 → over (written ps) k ≡ crowded ps k
+unfolding over crowded written joined
+count-as-reader ps k l h c = ap (λ (n : ℕ). ltb 0 k && ltb (most k) n) (count-read 1 (countOf ps) (sizeOf ps) k (gather 8 ps) l h c)
+
 module _ (ps : ℕ → List ℕ) (v : Seven ps) (w : Sized ps) where
   none-over : (k : ℕ) → k < 8 → over (written ps) k ≡ false
-  unfolding over countOf
+  unfolding over
   none-over zero l = refl
-  none-over (suc k) l =
-      let h : count (written ps) (suc k) ≤ most (suc k) = subst (λ (n : ℕ). n ≤ most (suc k)) (sym (count-written ps v w (suc k) (omega arith) (omega arith))) (w .few (suc k) (omega arith) (omega arith)) in
-      simp (lt-ltb 0 (suc k) (omega arith), le-ltb (most (suc k)) (count (written ps) (suc k)) h)
+  none-over (suc k) l = count-as-reader ps (suc k) (omega arith) (omega arith) (count-small ps w (suc k) (omega arith) (omega arith)) ∙ none-crowded-at ps w (suc k) l
 
   none-moved : (k : ℕ) → k < 8 → moved (written ps) k ≡ false
   unfolding moved
@@ -137,11 +140,6 @@ module _ (ps : ℕ → List ℕ) (v : Seven ps) (w : Sized ps) where
       ∙ decide-both Refused (rowReasons ps) (shortReason ps room ∷ []) (Octets (length (written ps)))
       ∙ sym (decide-turned reader.Refused Refused (λ (o : Outcome). refusalOr o (roomAnswer ps room)) (λ n t r. refl) (rowReasons ps) (reader.Accepted (layout (written ps))))
       ∙ ap (λ (o : Outcome). refusalOr o (roomAnswer ps room)) (sym rows-decide)
-
--- "5 .. as the reader would give" it: where a count is a word, the reader's own test of the listing put together
-pub count-as-reader : (ps : ℕ → List ℕ) (k : ℕ) → 1 ≤ k → k ≤ 7 → countOf ps k < 2 ^ 32 → over (written ps) k ≡ crowded ps k
-unfolding over crowded written joined
-count-as-reader ps k l h c = ap (λ (n : ℕ). ltb 0 k && ltb (most k) n) (count-read 1 (countOf ps) (sizeOf ps) k (gather 8 ps) l h c)
 
 -- ---- a listing that is written
 -- whether it is one

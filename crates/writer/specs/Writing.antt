@@ -10,6 +10,8 @@ use Rattle.octets.specs.Search.{first, any}
 use Rattle.listing.specs.Listing.{row, most}
 use Rattle.listing.specs.Refusals.{Reason, rowReasons, decideBy}
 use Rattle.writer.specs.Parts.{sizeOf, countOf, written}
+use Rattle.writer.specs.declared.Flaw.{Flaw}
+use Rattle.writer.specs.declared.Flaw.the-variants.{Ragged, Crowded}
 use Rattle.writer.specs.declared.Written.{Written}
 use Rattle.writer.specs.declared.Written.the-variants.{Octets, Refused}
 
@@ -21,6 +23,11 @@ ragged ps k = ltb 0 k && not (eqb (sizeOf ps k % row k) 0)
 -- 5: a count above its most
 unfoldable pub crowded : (ℕ → List ℕ) → ℕ → Bool
 crowded ps k = ltb 0 k && ltb (most k) (countOf ps k)
+
+-- either, as the code asks for it
+unfoldable pub flawed : Flaw → (ℕ → List ℕ) → ℕ → Bool
+flawed Ragged ps = ragged ps
+flawed Crowded ps = crowded ps
 
 -- 11 "comes first", "then 5"; their place is "the first such table, 0"
 unfoldable pub sizeReasons : (ℕ → List ℕ) → List Reason

@@ -6,55 +6,38 @@ ghost use lib.ListN.{length};
 ghost use lib.Seq.{sets};
 ghost use Rattle.octets.specs.Octets.{filled};
 ghost use Rattle.listing.specs.Listing.{numbered};
-ghost use Rattle.writer.specs.Parts.{sizeOf, countOf, numbers, joined, written};
+ghost use Rattle.writer.specs.Parts.{measured, numbers, joined, written};
 ghost use Rattle.writer.specs.PartLaws.{Sized};
+use crate::Measure;
 use listing::TABLE_COUNT;
 use listing::table_at;
 
-// A part's octets, and its rows, as words of the header.
-fn size_of(parts: [&[u8]; TABLE_COUNT], k: usize) -> u32
+// A part's octets or its rows, as a word of the header.
+fn number_of(measure: Measure, parts: [&[u8]; TABLE_COUNT], k: usize) -> u32
     requires { ⌜ (1 ≤ k) × (k ≤ 7) × Sized (numbered (map now parts)) ⌝ }
-    ensures { λ r. ⌜ r ≡ sizeOf (numbered (map now (parts .entry))) k ⌝ }
+    ensures { λ r. ⌜ r ≡ measured measure (numbered (map now (parts .entry))) k ⌝ }
 {
-    table_at(parts, k).len() as u32
+    let part = table_at(parts, k);
+    match measure {
+        Measure::Octets => part.len() as u32,
+        Measure::Rows => listing::rows_of(k, part) as u32,
+    }
 }
 
-fn count_of(parts: [&[u8]; TABLE_COUNT], k: usize) -> u32
-    requires { ⌜ (1 ≤ k) × (k ≤ 7) × Sized (numbered (map now parts)) ⌝ }
-    ensures { λ r. ⌜ r ≡ countOf (numbered (map now (parts .entry))) k ⌝ }
-{
-    listing::rows_of(k, table_at(parts, k)) as u32
-}
-
-fn sizes_of(parts: [&[u8]; TABLE_COUNT]) -> [u32; 8]
+// The same of every part; there is no table 0.
+fn numbers_of(measure: Measure, parts: [&[u8]; TABLE_COUNT]) -> [u32; 8]
     requires { ⌜ Sized (numbered (map now parts)) ⌝ }
-    ensures { λ r. ⌜ r ≡ numbers (sizeOf (numbered (map now (parts .entry)))) ⌝ }
+    ensures { λ r. ⌜ r ≡ numbers (measured measure (numbered (map now (parts .entry)))) ⌝ }
 {
     [
         0,
-        size_of(parts, 1),
-        size_of(parts, 2),
-        size_of(parts, 3),
-        size_of(parts, 4),
-        size_of(parts, 5),
-        size_of(parts, 6),
-        size_of(parts, 7),
-    ]
-}
-
-fn counts_of(parts: [&[u8]; TABLE_COUNT]) -> [u32; 8]
-    requires { ⌜ Sized (numbered (map now parts)) ⌝ }
-    ensures { λ r. ⌜ r ≡ numbers (countOf (numbered (map now (parts .entry)))) ⌝ }
-{
-    [
-        0,
-        count_of(parts, 1),
-        count_of(parts, 2),
-        count_of(parts, 3),
-        count_of(parts, 4),
-        count_of(parts, 5),
-        count_of(parts, 6),
-        count_of(parts, 7),
+        number_of(measure, parts, 1),
+        number_of(measure, parts, 2),
+        number_of(measure, parts, 3),
+        number_of(measure, parts, 4),
+        number_of(measure, parts, 5),
+        number_of(measure, parts, 6),
+        number_of(measure, parts, 7),
     ]
 }
 
@@ -63,7 +46,7 @@ pub fn length_of(parts: [&[u8]; TABLE_COUNT]) -> usize
     requires { ⌜ Sized (numbered (map now parts)) ⌝ }
     ensures { λ r. ⌜ r ≡ length (written (numbered (map now (parts .entry)))) ⌝ }
 {
-    let sizes = sizes_of(parts);
+    let sizes = numbers_of(Measure::Octets, parts);
     listing::start_by(&sizes, 8)
 }
 
@@ -87,8 +70,8 @@ pub fn put_listing(parts: [&[u8]; TABLE_COUNT], out: &mut [u8])
     requires { ⌜ Sized (numbered (map now parts)) × (length (written (numbered (map now parts))) ≤ length (now out)) ⌝ }
     ensures { λ _. ⌜ now (out .exit) ≡ filled (written (numbered (map now (parts .entry)))) (now (out .entry)) ⌝ }
 {
-    let counts = counts_of(parts);
-    let sizes = sizes_of(parts);
+    let counts = numbers_of(Measure::Rows, parts);
+    let sizes = numbers_of(Measure::Octets, parts);
     listing::put_header(out, 1, &counts, &sizes);
     put_parts(parts, out);
 }

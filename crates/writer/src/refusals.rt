@@ -5,48 +5,33 @@ ghost use Prim.Native.Nat.{_≤_};
 ghost use Rattle.octets.specs.Search.{first};
 ghost use Rattle.listing.specs.Listing.{numbered};
 ghost use Rattle.writer.specs.PartLaws.{Sized};
-ghost use Rattle.writer.specs.Writing.{ragged, crowded, roomAnswer, sizedAnswer, writeAnswer};
+ghost use Rattle.writer.specs.Writing.{flawed, roomAnswer, sizedAnswer, writeAnswer};
+use crate::Flaw;
 use crate::Written;
 use crate::parts::length_of;
 use listing::Checked;
 use listing::TABLE_COUNT;
 use listing::table_at;
 
-fn is_ragged(parts: [&[u8]; TABLE_COUNT], k: usize) -> bool
+// Whether a part has this flaw.
+fn is_flawed(flaw: Flaw, parts: [&[u8]; TABLE_COUNT], k: usize) -> bool
     requires { ⌜ (1 ≤ k) × (k ≤ 7) ⌝ }
-    ensures { λ r. ⌜ r ≡ ragged (numbered (map now (parts .entry))) k ⌝ }
+    ensures { λ r. ⌜ r ≡ flawed flaw (numbered (map now (parts .entry))) k ⌝ }
 {
-    table_at(parts, k).len() % (listing::row_of(k) as usize) != 0
-}
-
-// The lowest table whose part is not whole rows, or 8.
-fn first_ragged(parts: [&[u8]; TABLE_COUNT]) -> usize
-    ensures { λ r. ⌜ r ≡ first (ragged (numbered (map now (parts .entry)))) 8 ⌝ }
-{
-    let mut k = 1;
-    while k < 8 {
-        if is_ragged(parts, k) {
-            return k;
-        }
-        k += 1;
+    let part = table_at(parts, k);
+    match flaw {
+        Flaw::Ragged => part.len() % (listing::row_of(k) as usize) != 0,
+        Flaw::Crowded => (listing::most_of(k) as usize) < listing::rows_of(k, part),
     }
-    8
 }
 
-fn is_crowded(parts: [&[u8]; TABLE_COUNT], k: usize) -> bool
-    requires { ⌜ (1 ≤ k) × (k ≤ 7) ⌝ }
-    ensures { λ r. ⌜ r ≡ crowded (numbered (map now (parts .entry))) k ⌝ }
-{
-    (listing::most_of(k) as usize) < listing::rows_of(k, table_at(parts, k))
-}
-
-// The lowest table with more rows than its most, or 8.
-fn first_crowded(parts: [&[u8]; TABLE_COUNT]) -> usize
-    ensures { λ r. ⌜ r ≡ first (crowded (numbered (map now (parts .entry)))) 8 ⌝ }
+// The lowest table whose part has this flaw, or 8.
+fn first_flawed(flaw: Flaw, parts: [&[u8]; TABLE_COUNT]) -> usize
+    ensures { λ r. ⌜ r ≡ first (flawed flaw (numbered (map now (parts .entry)))) 8 ⌝ }
 {
     let mut k = 1;
     while k < 8 {
-        if is_crowded(parts, k) {
+        if is_flawed(flaw, parts, k) {
             return k;
         }
         k += 1;
@@ -88,11 +73,11 @@ fn sized_answer(parts: [&[u8]; TABLE_COUNT], room: usize) -> Written
 pub fn answer(parts: [&[u8]; TABLE_COUNT], room: usize) -> Written
     ensures { λ r. ⌜ r ≡ writeAnswer (numbered (map now (parts .entry))) room ⌝ }
 {
-    let k = first_ragged(parts);
+    let k = first_flawed(Flaw::Ragged, parts);
     if k < 8 {
         return refused(11, k as u32, 0);
     }
-    let k = first_crowded(parts);
+    let k = first_flawed(Flaw::Crowded, parts);
     if k < 8 {
         return refused(5, k as u32, 0);
     }

@@ -1,12 +1,12 @@
 -- `writer::refusals::answer` meets its contract.
-use Rattle.writer.specs.Writing.{sizeReasons, writeReasons}
+use Rattle.writer.specs.Writing.{flawed, sizeReasons, writeReasons}
 use Rattle.writer.proofs.Laws.{size-stop, sizes-past, sized-by, steps}
 use borrow.Author.Needs.{needs}
 use Rattle.writer.proofs.refusals.answer.Statement.{statement}
 use Rattle.writer.proofs.refusals.answer.Tie as tie
 
 pub answer-spec : {M : Type 1} → statement M
-unfolding writeReasons sizeReasons
+unfolding writeReasons sizeReasons flawed
 answer-spec =
     tie.close
     (tie.spec
