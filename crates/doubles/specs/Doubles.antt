@@ -1,9 +1,9 @@
--- What document 01, "What counts as a finding", says of doubles: "near", and what rules 351, 451, 452, 511, 521 and 531 ask of them, over the values of IEEE 754.
-use Prim.Native.Nat.{ℕ, _+_, _-_, _*_, _^_}
-use mathlib.Core.Bool.{Bool, false, _&&_}
+-- What document 01, "What counts as a finding", says of doubles: "near", and what rules 351, 451, 452, 511, 521 and 531 ask of them, over the values of IEEE 754; and the second way of 451 and 452, by document 02, 2026-02.
+use Prim.Native.Nat.{ℕ, _+_, _-_, _*_, _%_, _^_, max}
+use mathlib.Core.Bool.{Bool, false, cond, _&&_, _||_}
 use lib.Dec.{leb, ltb}
 use lib.IntN.{ℤ, pos}
-use lib.Ieee.{Float, inf, fin, binary64, lt, sub, mul, ofInt, toBits}
+use lib.Ieee.{Float, inf, fin, binary64, lt, le, sub, mul, ofInt, toBits, ofBits}
 use Rattle.octets.specs.Numbers.{natural}
 use Rattle.doubles.specs.declared.Extent.{Extent}
 
@@ -27,12 +27,42 @@ twice x = mul binary64 (fin false 1 (pos 1)) x
 abbrev pub strictlyBelow : Float → Float → Bool
 strictlyBelow a b = lt a b
 
--- "width and tile width are positive, their product is at most 2^53, and max_x - min_x, rounded once, is near that product times pixel_x_size, rounded once" (451).
+-- ---- 451 and 452: near as document 01 has it, and the second way that 2026-02 puts beside it
+
+-- the pattern of a double's magnitude: its own less the sign. Magnitudes are ordered as their patterns are (`PatternLaws`)
+unfoldable pub magnitude : Float → ℕ
+magnitude x = toBits binary64 x % 2 ^ 63
+
+-- "the gap from the corner larger in magnitude to the next double above that magnitude": the next double has the next pattern.
+-- Above the greatest double that is the infinity's, so the gap is not finite
+unfoldable pub gapAbove : ℕ → Float
+gapAbove n = sub binary64 (ofBits binary64 (n + 1)) (ofBits binary64 n)
+
+unfoldable pub gapOf : Float → Float → Float
+gapOf low high = gapAbove (max (magnitude low) (magnitude high))
+
+-- "the difference rounded once": the greater less the other
+unfoldable pub difference : Float → Float → Float
+difference a b = cond (lt a b) (sub binary64 b a) (sub binary64 a b)
+
+-- "both finite and above 0 and differ, the difference rounded once, by at most four times the gap. A gap that isn't finite passes nothing"
+unfoldable pub withinFour : Float → Float → Float → Bool
+withinFour gap a b = positive a && (positive b && (positive gap && le (difference a b) (mul binary64 (fin false 1 (pos 2)) gap)))
+
+-- either way: an extent from low to high and a product are near, or within four gaps of the corners
+unfoldable pub sameLength : Float → Float → Float → Float → Bool
+sameLength low high extent product = near extent product || withinFour (gapOf low high) extent product
+
+-- "width and tile width are positive, their product is at most 2^53, and max_x - min_x, rounded once," is alike "that product times pixel_x_size, rounded once".
 -- A number that is not positive has the natural number 0; the product is a double exactly
-unfoldable pub measures : Float → Float → ℤ → ℤ → Float → Bool
-measures low high count size pixel =
+unfoldable pub measuresBy : (Float → Float → Bool) → Float → Float → ℤ → ℤ → Float → Bool
+measuresBy alike low high count size pixel =
     ltb 0 (natural count) && (ltb 0 (natural size) && (leb (natural count * natural size) (2 ^ 53)
-    && near (sub binary64 high low) (mul binary64 (ofInt binary64 (pos (natural count * natural size))) pixel)))
+    && alike (sub binary64 high low) (mul binary64 (ofInt binary64 (pos (natural count * natural size))) pixel)))
+
+-- "the width conditions stay": they stand before both ways
+unfoldable pub measures : Float → Float → ℤ → ℤ → Float → Bool
+measures low high = measuresBy (sameLength low high) low high
 
 -- 451 of an extent, width, tile width and pixel_x_size
 abbrev pub spansX : Extent → ℤ → ℤ → Float → Bool

@@ -4,8 +4,8 @@ use mathlib.Core.Path.{_≡_, refl}
 use mathlib.Core.Bool.{Bool, true, false, and-false}
 use mathlib.Core.List.{List, [], _∷_, map}
 use lib.IntN.{ℤ, pos, negsuc}
-use lib.Ieee.{Float, binary64, ofBits, toBits, ofInt, lt, sub, mul}
-use Rattle.doubles.specs.Doubles.{positive, near, twice, strictlyBelow, measures, spansX, spansY}
+use lib.Ieee.{Float, binary64, ofBits, toBits, ofInt, lt, le, sub, mul}
+use Rattle.doubles.specs.Doubles.{positive, near, twice, strictlyBelow, magnitude, gapAbove, gapOf, difference, withinFour, sameLength, measuresBy, measures, spansX, spansY}
 use Rattle.doubles.specs.declared.Extent.{Extent}
 
 -- doubles are given by their patterns, so that "four steps above 1.0" is `one + 4`
@@ -98,7 +98,7 @@ rows =
     ∷ []
 
 pub worked : map (λ row. row .0) rows ≡ map (λ row. row .1) rows
-unfolding positive near twice measures ofBits toBits ofInt lt sub mul
+unfolding positive near twice magnitude gapAbove gapOf difference withinFour sameLength measuresBy measures ofBits toBits ofInt lt le sub mul
 worked = refl
 
 -- twice the largest is the infinity, which nothing is near

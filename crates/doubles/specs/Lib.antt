@@ -1,2 +1,4 @@
 pub mod Doubles
 pub mod DoublesWorked
+pub mod FarWorked
+pub mod FarLaws

@@ -2,16 +2,15 @@
 use Prim.Native.Nat.{ℕ, _+_}
 use mathlib.Core.Path.{_≡_, refl}
 use mathlib.Core.List.{List, [], _∷_, _++_, map}
-use mathlib.Core.Bool.{Bool, true, false, cond}
-use lib.ListN.{length, replicate}
+use lib.ListN.{replicate}
 use Prim.Native.String.{String}
 use lib.IntN.{ℤ, pos, negsuc}
-use lib.Ieee.{Float, fin, binary64, lt, sub, mul, ofInt, ofBits, toBits}
+use lib.Ieee.{Float, binary64, lt, le, sub, mul, ofInt, ofBits, toBits}
 use Rattle.octets.specs.Octets.{le32, le64, part}
 use Rattle.octets.specs.Slices.{nth}
 use Rattle.octets.specs.Search.{first, any}
 use Rattle.octets.specs.Texts.{Null, same, textAt}
-use Rattle.doubles.specs.Doubles.{positive, near, measures}
+use Rattle.doubles.specs.Doubles.{positive, near, magnitude, gapAbove, gapOf, difference, withinFour, sameLength, measuresBy, measures}
 use Rattle.doubles.specs.declared.Extent.{Extent}
 use Rattle.spelling.specs.Dates.{form, fits, misfit, twoDigits, fourDigits, leap, monthLengths, commonLength, leapFebruary, monthLength, inCalendar, onClock, isDate}
 use Rattle.spelling.specs.Characters.{between}
@@ -108,5 +107,5 @@ lines =
 
 -- the definitions say what document 01 says, on every line
 pub both-sides : map (λ l. l .0) lines ≡ map (λ l. l .1) lines
-unfolding headerAlone quoted le32 le64 part first any same textAt positive near measures form fits misfit twoDigits fourDigits leap monthLengths commonLength leapFebruary monthLength inCalendar onClock isDate between alphanumeric nameOctet underscoreAt strangeAt inside isExtensionName row most version total count offset start table tablesOf nth rows over moved textBase textCount nullCount badText badRow lowestBadRow badTable badContents headerReasons rowReasons outcome packOf partner hasId lacksId ofType isMap none171 of151 setNamed matrixNamed atLevel fits451 measured of451 offGrid off561 placed of561 of621 codeAt tableAt judged judgedNone atRow atNone rowsIn ofCode ofPlace findings reported lt sub mul ofInt ofBits toBits
+unfolding headerAlone quoted le32 le64 part first any same textAt positive near magnitude gapAbove gapOf difference withinFour sameLength measuresBy measures form fits misfit twoDigits fourDigits leap monthLengths commonLength leapFebruary monthLength inCalendar onClock isDate between alphanumeric nameOctet underscoreAt strangeAt inside isExtensionName row most version total count offset start table tablesOf nth rows over moved textBase textCount nullCount badText badRow lowestBadRow badTable badContents headerReasons rowReasons outcome packOf partner hasId lacksId ofType isMap none171 of151 setNamed matrixNamed atLevel fits451 measured of451 offGrid off561 placed of561 of621 codeAt tableAt judged judgedNone atRow atNone rowsIn ofCode ofPlace findings reported lt le sub mul ofInt ofBits toBits
 both-sides = refl

@@ -15,3 +15,4 @@ pub mod RefusedLaws
 pub mod RulingLaws
 pub mod LocatedLaws
 pub mod WordLaws
+pub mod FarLaws

@@ -1,18 +1,19 @@
--- The readings of document 01 that a definition shows at once, and "Readings that look right", as one table with a single statement.
+-- The readings of documents 01 and 02 that a definition shows at once, and "Readings that look right", as one table with a single statement.
 use Prim.Native.Nat.{ℕ, zero, suc, _+_, _^_}
 use mathlib.Core.Path.{_≡_, refl}
 use mathlib.Core.List.{List, [], _∷_, map}
-use mathlib.Core.Bool.{Bool, true, false}
 use lib.IntN.{ℤ, pos, negsuc}
-use lib.Ieee.{Float, nan, binary64, lt, sub, mul, ofInt, ofBits, toBits}
+use lib.Ieee.{Float, nan, binary64, lt, le, sub, mul, ofInt, ofBits, toBits}
 use Rattle.octets.specs.Search.{first, any}
 use Rattle.octets.specs.Texts.{Nullable, There, Null, same}
-use Rattle.doubles.specs.Doubles.{positive, near, twice, measures}
+use Rattle.doubles.specs.Doubles.{positive, near, twice, magnitude, gapAbove, gapOf, difference, withinFour, sameLength, measuresBy, measures}
+use Rattle.doubles.specs.DoublesWorked.{double}
+use Rattle.doubles.specs.FarWorked.{hill, wideOne}
 use Rattle.spelling.specs.Words.{tiles, zoomOther}
 use Rattle.pack.specs.Rows.{Rows, Content, MatrixSet, Matrix, Tile, Extension}
 use Rattle.rules.specs.Judgments.{none, partner}
 use Rattle.rules.specs.Contents.{ofType, setNamed, breaks162, of162}
-use Rattle.rules.specs.Matrices.{matrixNamed, tileNamed, frees, nearTwice, breaks351, of351, fits451, measured, of451, finer, breaks531, of531}
+use Rattle.rules.specs.Matrices.{matrixNamed, tileNamed, frees, nearTwice, breaks351, of351, fits451, fits452, measured, of451, of452, finer, breaks531, of531}
 use Rattle.rules.specs.Tiles.{atAddress, atMost, atLeast, of541, of551, offGrid, off561, placed}
 use Rattle.rules.specs.Extensions.{of601, equals622, of622}
 use Rattle.rules.specs.declared.Judgment.{Judgment}
@@ -45,6 +46,10 @@ set id = record { name = t; srsId = id; extent = extent1024 }
 -- a set row with no extent at all
 abbrev empty : MatrixSet
 empty = record { name = t; srsId = pos 0; extent = record { «min_x» = nan; «min_y» = nan; «max_x» = nan; «max_y» = nan } }
+
+-- a set row near the origin in x and far from it in y
+abbrev upland : MatrixSet
+upland = record { name = t; srsId = pos 0; extent = hill }
 
 abbrev sets : List MatrixSet → Rows MatrixSet
 sets xs = rowsOf (set (pos 0)) xs
@@ -122,6 +127,9 @@ readings =
     ∷ (given 451 (of451 (sets (empty ∷ set (pos 0) ∷ [])) (level (pos 0) (number 1))), 451 ∷ 0 ∷ none ∷ [])
     ∷ (given 451 (of451 (sets (set (pos 0) ∷ empty ∷ [])) (level (pos 0) (number 1))), [])
     ∷ (given 451 (of451 (sets []) (level (pos 0) nan)), [])
+    -- 2026-02: x from 0, y at 2^22, both pixels 1 + 2^-38: 451 only, since each axis has the gap of its own corners
+    ∷ (given 451 (of451 (sets (upland ∷ [])) (level (pos 0) (double wideOne))), 451 ∷ 0 ∷ none ∷ [])
+    ∷ (given 452 (of452 (sets (upland ∷ [])) (level (pos 0) (double wideOne))), [])
     -- 551: negative zooms count; not judged without a matrix row of the name
     ∷ (given 551 (of551 (levels (level (negsuc 1) nan ∷ level (pos 3) nan ∷ [])) (tile (pos 0) (pos 0))), [])
     ∷ (given 551 (of551 (levels (level (negsuc 1) nan ∷ level (pos 3) nan ∷ [])) (tile (negsuc 2) (pos 0))), 551 ∷ 0 ∷ none ∷ [])
@@ -133,5 +141,5 @@ readings =
 
 -- the definitions say what the readings say
 pub readings-hold : map (λ l. l .0) readings ≡ map (λ l. l .1) readings
-unfolding first any same positive near twice measures lt sub mul ofInt ofBits toBits partner ofType setNamed breaks162 of162 matrixNamed tileNamed frees nearTwice breaks351 of351 fits451 measured of451 finer breaks531 of531 atAddress atMost atLeast of541 of551 offGrid off561 placed of601 equals622 of622
+unfolding first any same positive near twice magnitude gapAbove gapOf difference withinFour sameLength measuresBy measures lt le sub mul ofInt ofBits toBits partner ofType setNamed breaks162 of162 matrixNamed tileNamed frees nearTwice breaks351 of351 fits451 fits452 measured of451 of452 finer breaks531 of531 atAddress atMost atLeast of541 of551 offGrid off561 placed of601 equals622 of622
 readings-hold = refl

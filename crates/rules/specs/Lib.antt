@@ -7,3 +7,4 @@ pub mod Tiles
 pub mod Extensions
 pub mod Codes
 pub mod CodeLaws
+pub mod FarLaws

@@ -50,7 +50,7 @@ unfoldable pub of432 : Rows Matrix → Matrix → ℕ → Judgment
 of432 ms m i = lowest (atLevel (m .name) (m .zoom)) ms i
 
 -- 451: matrix row with a set row of its name (the first), unless width and tile width are positive, their product is at most 2^53,
--- and max_x - min_x, rounded once, is near that product times pixel_x_size, rounded once; 452 likewise for y
+-- and max_x - min_x, rounded once, is near that product times pixel_x_size, rounded once, or within four gaps of it (2026-02); 452 likewise for y
 unfoldable pub fits451 : Matrix → Extent → Bool
 fits451 m e = spansX e (m .width) (m .tileWidth) (m .pixelX)
 

@@ -15,6 +15,6 @@ is-near-spec =
     (λ c. search (no-nan, needs))
     (λ c κs. search needs)
     (λ c. rw (← c .before .before .before .before .is-positive .ensures, c .before .before .before .if1 .taken, ← c .before .before .is-positive2 .ensures, c .before .if2 .taken)
-    (rw (c .gap .ensures)))
+    (rw (c .steps .ensures)))
     (λ c. rw (← c .before .before .before .is-positive .ensures, c .before .before .if1 .taken, ← c .before .is-positive2 .ensures, c .if2 .left))
     (λ c. rw (← c .before .is-positive .ensures, c .if1 .left)))
