@@ -1,4 +1,5 @@
 pub mod Doubles
 pub mod DoublesWorked
 pub mod FarWorked
+pub mod PatternLaws
 pub mod FarLaws
