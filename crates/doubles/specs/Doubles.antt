@@ -29,11 +29,11 @@ strictlyBelow a b = lt a b
 
 -- ---- 451 and 452: near as document 01 has it, and the second way that 2026-02 puts beside it
 
--- the pattern of a double's magnitude: its own less the sign. Magnitudes are ordered as their patterns are (`PatternLaws`)
+-- the pattern of a double's magnitude: its own less the sign. The larger magnitude has the greater pattern (`larger`)
 unfoldable pub magnitude : Float → ℕ
 magnitude x = toBits binary64 x % 2 ^ 63
 
--- "the gap from the corner larger in magnitude to the next double above that magnitude": the next double has the next pattern.
+-- "the gap from the corner larger in magnitude to the next double above that magnitude": the next double has the next pattern (`none-between`), and the gap is exact (`gap-exact`).
 -- Above the greatest double that is the infinity's, so the gap is not finite
 unfoldable pub gapAbove : ℕ → Float
 gapAbove n = sub binary64 (ofBits binary64 (n + 1)) (ofBits binary64 n)
@@ -45,7 +45,7 @@ gapOf low high = gapAbove (max (magnitude low) (magnitude high))
 unfoldable pub difference : Float → Float → Float
 difference a b = cond (lt a b) (sub binary64 b a) (sub binary64 a b)
 
--- "both finite and above 0 and differ, the difference rounded once, by at most four times the gap. A gap that isn't finite passes nothing"
+-- "both finite and above 0 and differ, the difference rounded once, by at most four times the gap", which is exact (`four-exact`). "A gap that isn't finite passes nothing"
 unfoldable pub withinFour : Float → Float → Float → Bool
 withinFour gap a b = positive a && (positive b && (positive gap && le (difference a b) (mul binary64 (fin false 1 (pos 2)) gap)))
 

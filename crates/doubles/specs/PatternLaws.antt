@@ -1,8 +1,7 @@
--- What 2026-02 rests on. Magnitudes are ordered as their patterns are: so the next pattern is the next double above, and the corner of the greater pattern is the larger in magnitude.
--- And a gap and four times a gap are exact: no rounding but that of the difference.
+-- Doubles that are not negative are ordered as their patterns are; the gap to the next one, and four times that gap, are exact.
 use Prim.Native.Nat.{ℕ, zero, suc, _+_, _-_, _*_, _/_, _%_, _^_, _<_, _≤_}
 use mathlib.Core.Path.{_≡_, refl, sym, ap, subst, subst₂, _∙_}
-use mathlib.Core.Bool.{Bool, true, false, cond, _||_, true≢false}
+use mathlib.Core.Bool.{Bool, true, false, cond, true≢false}
 use mathlib.Core.Logic.{inl, inr}
 use native.Mathlib.Nat.{mul-one, mul-assoc, mul-comm, mul-right-comm, mul-le-mul-right, mul-lt-mul-of-pos-right, lt-of-mul-lt-mul-right, le-of-lt, mod-eq-of-lt, pow-suc, eq-or-lt-of-le, le-of-suc-le-suc, lt-trans, le-of-eq, le-of-mul-le-mul-right, one-mul, mul-pos, mul-sub}
 use native.Mathlib.Omega.{arith}
@@ -89,7 +88,7 @@ units-more a (suc b) l = elim (eq-or-lt-of-le (le-of-suc-le-suc l)) [ inl e ↦ 
     next : (n : ℕ) → unitsOf n < unitsOf (suc n)
     next n = omega (arith, units-next n, pow-pos (exponent (n / 2 ^ 52)))
 
--- ---- magnitudes are ordered as their patterns are
+-- ---- doubles are ordered as their patterns are
 
 -- two values over one denominator, brought to another
 scaled : (a k u b c : ℕ) → a * c ≡ u * b → a * k * c ≡ u * (b * k)
