@@ -7,20 +7,25 @@ use mathlib.Core.List.{List, [], _∷_, _++_}
 use lib.Dec.{eqb}
 use borrow.Author.Tests.{eqb-true}
 use Rattle.octets.specs.Gather.{gather}
+use Rattle.listing.specs.Refusals.{outcome}
+use Rattle.listing.specs.declared.Outcome.{Outcome}
+use Rattle.listing.specs.declared.Outcome.the-variants.{Accepted, Refused}
 use Rattle.pack.specs.Rows.{Pack, rowsIn}
+use Rattle.pack.specs.Tables.{packOf}
 use Rattle.rules.specs.Codes.{codeCount, codeAt, tableAt, judged}
 use Rattle.rules.specs.FarLaws.{of451Before, of452Before, Fewer, fewer451, fewer452}
 use Rattle.rules.specs.declared.Judgment.{Judgment}
 use Rattle.rules.specs.declared.Judgment.the-variants.{Clean, Hit}
 use Rattle.findings.specs.Findings.{Finding, found, atRow, atNone, ofCode, ofPlace, findings, only}
+use Rattle.findings.specs.Answers.{findingsBy, reported}
 
 -- ---- the list before the request: the same, by the rules as they were
 
 -- the findings that a judge of codes and rows gives, in the order of the report
-abbrev pub findingsBy : (ℕ → ℕ → Judgment) → Pack → List Finding
-findingsBy judge p = gather codeCount (λ k. gather (rowsIn p (tableAt k)) (λ i. found (codeAt k) i (judge (codeAt k) i)) ++ atNone p (codeAt k))
+abbrev pub findingsOf : (ℕ → ℕ → Judgment) → Pack → List Finding
+findingsOf judge p = gather codeCount (λ k. gather (rowsIn p (tableAt k)) (λ i. found (codeAt k) i (judge (codeAt k) i)) ++ atNone p (codeAt k))
 
-pub by-judged : (p : Pack) → findingsBy (judged p) p ≡ findings p
+pub by-judged : (p : Pack) → findingsOf (judged p) p ≡ findings p
 unfolding findings ofPlace ofCode atRow
 by-judged p = refl
 
@@ -31,7 +36,11 @@ judgedBefore p c i =
     (judged p c i))
 
 unfoldable pub findingsBefore : Pack → List Finding
-findingsBefore p = findingsBy (judgedBefore p) p
+findingsBefore p = findingsOf (judgedBefore p) p
+
+-- what a report of an octet string held
+unfoldable pub reportedBefore : List ℕ → List Finding
+reportedBefore s = findingsBy (outcome s) (findingsBefore (packOf s))
 
 -- ---- a list, less some findings of 451 and 452
 abbrev pub Extents : ℕ → Type 0
@@ -90,6 +99,15 @@ module _ (p : Pack) (i : ℕ) where
 pub no-new-finding : (p : Pack) → Less (findings p) (findingsBefore p)
 unfolding findingsBefore findings ofPlace ofCode atRow
 no-new-finding p = less-gather _ _ codeCount (λ k. less-append (less-gather _ _ (rowsIn p (tableAt k)) (λ i. row-less p i (codeAt k))) (all-kept (atNone p (codeAt k))))
+
+-- the same of the report of every octet string
+pub no-new-reported : (s : List ℕ) → Less (reported s) (reportedBefore s)
+unfolding reported reportedBefore
+no-new-reported s = by (outcome s)
+  where
+    by : (o : Outcome) → Less (findingsBy o (findings (packOf s))) (findingsBy o (findingsBefore (packOf s)))
+    by (Accepted l) = no-new-finding (packOf s)
+    by (Refused n t r) = none
 
 -- so the findings of every other code are those before
 only-same : (c : ℕ) → (Extents c → ⊥) → {xs ys : List Finding} → Less xs ys → only c xs ≡ only c ys
