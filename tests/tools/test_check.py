@@ -9,7 +9,7 @@ import subprocess
 import unittest
 import xml.dom.minidom
 from pathlib import Path
-from typing import List
+from typing import List, Tuple
 
 from packs import (
     DATE, PACKS, ROOT, SECOND, TOOLS, Called, InRoom, Ran, good, judged_by_second, loaded, make_pack, needs_library,
@@ -179,7 +179,8 @@ SLIGHT = "of 451 and 452 off by less than one part in 10^9 of the extent"
 
 @needs_library
 class Lengths(InRoom):
-    """451 and 452 are told in numbers that a person can weigh, and those that hardly weigh are counted."""
+    """451 and 452 are told in the numbers of the rule and in those that a person can weigh, and findings that hardly
+    weigh are counted."""
 
     def pack_of(self, left: float, bottom: float, side: float, pixels: "List[float]") -> Path:
         rows = planted([])
@@ -188,21 +189,44 @@ class Lengths(InRoom):
         rows[MATRICES] = [(FARM, zoom, 2**zoom, 2**zoom, 256, 256, size, size) for zoom, size in sizes]
         return self.pack(rows)
 
+    def told_of(self, pack: Path) -> "List[Tuple[object, ...]]":
+        """What machines are told of each finding of 451 and 452."""
+        findings = json.loads(Called(GPKG_CHECK, "--json", pack).out)["findings"]
+        fields = ["code", "row", "off", "off_share", "steps", "gaps"]
+        return [tuple(one[name] for name in fields) for one in findings if one["code"] in (451, 452)]
+
     def test_far_from_the_origin(self) -> None:
-        """The worked case of docs/RULES.md, and a level that is wrong indeed."""
+        """The worked case of docs/RULES.md, which is good, and a level that is wrong indeed: 128 m for 102.4."""
         pack = self.pack_of(500_000.0, 5_200_000.0, 102.4, [0.4, 0.2, 0.1, 0.0625])
         lines = Called(GPKG_CHECK, pack).out.splitlines()
-        for words in [
-            "= 102.4; that is 1,638 steps off, and 4 are allowed; 2.33e-11 in the map's units; 2.27e-13 of the extent",
-            "= 102.4; that is 26,214 steps off, and 4 are allowed; 3.73e-10 in the map's units; 3.64e-12 of the extent",
-        ]:
-            self.assertEqual(sum(line.endswith(words) for line in lines), 3, words)
-        self.assertEqual(sum(line.endswith("; 25.6 in the map's units; 0.25 of the extent") for line in lines), 2)
-        self.assertEqual(lines[-1], f"        6  of 8 findings {SLIGHT}")
-        told = json.loads(Called(GPKG_CHECK, "--json", "--most", 4, pack).out)
-        self.assertEqual((told["slight"], told["total"]), (6, 9))
-        off = [(finding["off"], finding["off_share"]) for finding in told["findings"] if finding["code"] == 451]
-        self.assertEqual(off[0], (102.40000000002328 - 102.4, (102.40000000002328 - 102.4) / 102.40000000002328))
+        weights = "25.6 in the map's units; 0.25 of the extent"
+        for axis, power, gaps in [("x", -34, "4.4e+11"), ("y", -30, "2.75e+10")]:
+            words = f"; {gaps} gaps of 2^{power} at max_{axis}, and 4 are allowed; {weights}"
+            self.assertEqual(sum(line.endswith(words) for line in lines), 1, words)
+        self.assertEqual(lines[-1], f"        0  of 2 findings {SLIGHT}")
+        # 25.6 m are 439,804,651,110.4 gaps of 2^-34 and 27,487,790,694.4 of 2^-30, and the stored corners are 0.4 gaps
+        # too far out. A step of 102.4 is 2^-46.
+        in_gaps = [(451, 439_804_651_110, 2**12), (452, 27_487_790_694, 2**16)]
+        found = [(code, row, steps, gaps) for code, row, _, _, steps, gaps in self.told_of(pack)]
+        self.assertEqual(found, [(code, 3, gaps * steps, gaps) for code, gaps, steps in in_gaps])
+
+    def test_near_the_origin(self) -> None:
+        """Five steps and as many gaps are a finding on each level and each side, and hardly weigh."""
+        side = 1024 + 5 * 2.0**-42
+        pack = self.pack_of(0.0, 0.0, side, [4.0, 2.0])
+        off = 5 * 2.0**-42
+        apart = (off, off / side, 5, 5.0)
+        self.assertEqual(self.told_of(pack), [(code, row, *apart) for code in (451, 452) for row in (0, 1)])
+        self.assertIn(f"        4  of 4 findings {SLIGHT}\n", Called(GPKG_CHECK, pack).out)
+        self.assertEqual(json.loads(Called(GPKG_CHECK, "--json", "--most", 1, pack).out)["slight"], 4)
+
+    def test_below_a_power_of_two_a_step_is_half_a_gap(self) -> None:
+        """So eight steps are four gaps, and nine are a finding."""
+        for below, expected in {8: [], 9: [(451, 0, 9, 4.5), (452, 0, 9, 4.5)]}.items():
+            pack = self.pack_of(0.0, 0.0, 1024.0, [4 - below * 2.0**-51])
+            found = [(code, row, steps, gaps) for code, row, _, _, steps, gaps in self.told_of(pack)]
+            self.assertEqual(found, expected)
+            pack.unlink()
 
     def test_one_part_in_10_to_the_9_is_not_below_it(self) -> None:
         for side, slight in {1e9: 0, 1e9 + 2: 2}.items():
@@ -217,9 +241,22 @@ class Lengths(InRoom):
         pack = self.pack_of(float("inf"), 5.0, 0.0, [4.0])
         called = Called(GPKG_CHECK, pack)
         self.assertIn(f"        0  of 2 findings {SLIGHT}\n", called.out)
-        told = json.loads(Called(GPKG_CHECK, "--json", pack).out)
-        off = [(finding["off"], finding["off_share"]) for finding in told["findings"] if finding["code"] in (451, 452)]
-        self.assertEqual((told["slight"], off), (0, [(None, None), (1024.0, None)]))
+        self.assertEqual(json.loads(Called(GPKG_CHECK, "--json", pack).out)["slight"], 0)
+        nothing = (None, None, None)
+        self.assertEqual(self.told_of(pack), [(451, 0, None, *nothing), (452, 0, 1024.0, *nothing)])
+
+    def test_gaps_that_no_double_can_tell(self) -> None:
+        """Above the greatest double there is no gap, and of the least ones 1,024 m have too many. From a double to its
+        half it is 2^52 steps; the pattern of 1,024 is (1023 + 10) * 2^52."""
+        greatest = 2.0**1023 * (2 - 2.0**-52)
+        for side, pixel, steps in [(greatest, greatest / 512, 2**52), (5e-324, 4.0, 1033 * 2**52 - 1)]:
+            pack = self.pack_of(0.0, 0.0, side, [pixel])
+            self.assertEqual([one[4:] for one in self.told_of(pack)], [(steps, None), (steps, None)])
+            pack.unlink()
+
+    def test_a_count_that_makes_no_length(self) -> None:
+        rows = planted([(MATRICES, 1, ("farm", 1, 2, 0, 256, 256, 2.0, 2.0))])
+        self.assertEqual(self.told_of(self.pack(rows)), [(452, 1, None, None, None, None)])
 
 
 def dash(row: object) -> str:

@@ -14,7 +14,7 @@ from desterlin import library, picture
 from desterlin.console import Trouble, shown
 from desterlin.listing import TABLES, Listing
 from desterlin.rules import REASONS, RULES, Finding
-from desterlin.words import Known, words
+from desterlin.words import SIDES, Known, lengths, words
 
 
 def findings_in(listing: bytes) -> List[Finding]:
@@ -22,6 +22,9 @@ def findings_in(listing: bytes) -> List[Finding]:
     assert not isinstance(answer, library.Refusal)
     return answer
 
+
+GREATEST = 2.0**1023 * (2 - 2.0**-52)
+FIVE_STEPS_BELOW = 2.0**1023 * (2 - 6 * 2.0**-52)
 
 # What is changed in good rows, the finding that is looked at, and its words.
 WORDS: "List[Tuple[List[Change], Finding, str]]" = [
@@ -41,32 +44,70 @@ WORDS: "List[Tuple[List[Change], Finding, str]]" = [
      '"farm" zoom 1: pixel_x_size is 1.0, twice that 2.0, but zoom 0 has 4.0'),
     ([(SETS, 0, ("farm", 4326, 0.0, 0.0, 1024.0000000000011, 1024.0))], Finding(451, 0, None),
      '"farm" zoom 0: max_x 1024.0000000000011 - min_x 0.0 = 1024.0000000000011, but matrix_width 1 * tile_width 256 * '
-     "pixel_x_size 4.0 = 1024.0; that is 5 steps off, and 4 are allowed; 1.14e-12 in the map's units; 1.11e-15 of the "
-     "extent"),
+     "pixel_x_size 4.0 = 1024.0; that is 5 steps off, and near allows 4; 5 gaps of 2^-42 at max_x, and 4 are allowed; "
+     "1.14e-12 in the map's units; 1.11e-15 of the extent"),
     ([(SETS, 0, ("farm", 4326, 0.0, 0.0, 1024.0, 1280.0))], Finding(452, 0, None),
      '"farm" zoom 0: max_y 1280.0 - min_y 0.0 = 1280.0, but matrix_height 1 * tile_height 256 * pixel_y_size 4.0 = '
-     "1024.0; that is 1,125,899,906,842,624 steps off, and 4 are allowed; 256 in the map's units; 0.2 of the extent"),
+     "1024.0; that is 1,125,899,906,842,624 steps off, and near allows 4; 1.13e+15 gaps of 2^-42 at max_y, and 4 are "
+     "allowed; 256 in the map's units; 0.2 of the extent"),
+    # Far out, by 2^-12 of a gap beyond four: what is above the allowed number is not told as that number.
+    ([(SETS, 0, ("farm", 4326, 2.0**22, 0.0, 2.0**22 + 1024, 1024.0)),
+      (MATRICES, 0, ("farm", 0, 4, 1, 256, 256, 1 + 2.0**-38 + 2.0**-52, 4.0))], Finding(451, 0, None),
+     '"farm" zoom 0: max_x 4195328.0 - min_x 4194304.0 = 1024.0, but matrix_width 4 * tile_width 256 * pixel_x_size '
+     "1.0000000000036382 = 1024.0000000037255; that is 16,385 steps off, and near allows 4; more than 4 gaps of 2^-30 "
+     "at max_x, and 4 are allowed; 3.73e-09 in the map's units; 3.64e-12 of the extent"),
+    # The larger corner may be the least one, and the gap is the one above its magnitude, a power of two here.
+    ([(SETS, 0, ("farm", 4326, 0.0, -(2.0**22), 1024.0, 1024 - 2.0**22)),
+      (MATRICES, 0, ("farm", 0, 1, 4, 256, 256, 4.0, 1 + 2.0**-38 + 2.0**-41))], Finding(452, 0, None),
+     '"farm" zoom 0: max_y -4193280.0 - min_y -4194304.0 = 1024.0, but matrix_height 4 * tile_height 256 * '
+     "pixel_y_size 1.0000000000040927 = 1024.000000004191; that is 18,432 steps off, and near allows 4; 4.5 gaps of "
+     "2^-30 at min_y, and 4 are allowed; 4.19e-09 in the map's units; 4.09e-12 of the extent"),
+    # The gap above the greatest double is not finite.
+    ([(SETS, 0, ("farm", 4326, 0.0, 0.0, GREATEST, 1024.0)),
+      (MATRICES, 0, ("farm", 0, 1, 1, 1, 256, FIVE_STEPS_BELOW, 4.0))], Finding(451, 0, None),
+     '"farm" zoom 0: max_x 1.7976931348623157e+308 - min_x 0.0 = 1.7976931348623157e+308, but matrix_width 1 * '
+     "tile_width 1 * pixel_x_size 1.7976931348623147e+308 = 1.7976931348623147e+308; that is 5 steps off, and near "
+     "allows 4; without a gap to count in, since max_x is the greatest double in magnitude; 9.98e+292 in the map's "
+     "units; 5.55e-16 of the extent"),
+    ([(SETS, 0, ("farm", 4326, -GREATEST, 0.0, 0.0, 1024.0)),
+      (MATRICES, 0, ("farm", 0, 1, 1, 1, 256, FIVE_STEPS_BELOW, 4.0))], Finding(451, 0, None),
+     '"farm" zoom 0: max_x 0.0 - min_x -1.7976931348623157e+308 = 1.7976931348623157e+308, but matrix_width 1 * '
+     "tile_width 1 * pixel_x_size 1.7976931348623147e+308 = 1.7976931348623147e+308; that is 5 steps off, and near "
+     "allows 4; without a gap to count in, since min_x is the greatest double in magnitude; 9.98e+292 in the map's "
+     "units; 5.55e-16 of the extent"),
     # Without an extent there is no share of it, and without a number no difference.
     ([(SETS, 0, ("farm", 4326, 0.0, 7.5, 1024.0, 7.5))], Finding(452, 0, None),
      '"farm" zoom 0: max_y 7.5 - min_y 7.5 = 0.0, but matrix_height 1 * tile_height 256 * pixel_y_size 4.0 = 1024.0; '
-     "that is 1,024 in the map's units"),
+     "that is neither near nor within gaps, since 0.0 is not finite and above 0; 1,024 in the map's units"),
     ([(SETS, 0, ("farm", 4326, 0.0, 8.0, 1024.0, -8.0))], Finding(452, 0, None),
      '"farm" zoom 0: max_y -8.0 - min_y 8.0 = -16.0, but matrix_height 1 * tile_height 256 * pixel_y_size 4.0 = '
-     "1024.0; that is 1,040 in the map's units"),
+     "1024.0; that is neither near nor within gaps, since -16.0 is not finite and above 0; 1,040 in the map's units"),
     ([(SETS, 0, ("farm", 4326, -INFINITE, 0.0, INFINITE, 1024.0))], Finding(451, 0, None),
-     '"farm" zoom 0: max_x inf - min_x -inf = inf, but matrix_width 1 * tile_width 256 * pixel_x_size 4.0 = 1024.0'),
-    ([(SETS, 0, ("farm", 4326, INFINITE, 0.0, INFINITE, 1024.0))], Finding(451, 0, None),
-     '"farm" zoom 0: max_x inf - min_x inf = nan, but matrix_width 1 * tile_width 256 * pixel_x_size 4.0 = 1024.0'),
+     '"farm" zoom 0: max_x inf - min_x -inf = inf, but matrix_width 1 * tile_width 256 * pixel_x_size 4.0 = 1024.0; '
+     "that is neither near nor within gaps, since inf is not finite and above 0"),
+    ([(SETS, 0, ("farm", 4326, INFINITE, 0.0, INFINITE, 1024.0)),
+      (MATRICES, 0, ("farm", 0, 1, 1, 256, 256, 0.0, 4.0))], Finding(451, 0, None),
+     '"farm" zoom 0: max_x inf - min_x inf = nan, but matrix_width 1 * tile_width 256 * pixel_x_size 0.0 = 0.0; that '
+     "is neither near nor within gaps, since nan and 0.0 are not finite and above 0"),
+    # 1024 has 2^1084 such gaps, more than a double can tell.
     ([(SETS, 0, ("farm", 4326, 0.0, 0.0, 5e-324, 1024.0))], Finding(451, 0, None),
      '"farm" zoom 0: max_x 5e-324 - min_x 0.0 = 5e-324, but matrix_width 1 * tile_width 256 * pixel_x_size 4.0 = '
-     "1024.0; that is 4,652,218,415,073,722,367 steps off, and 4 are allowed; 1,024 in the map's units"),
+     "1024.0; that is 4,652,218,415,073,722,367 steps off, and near allows 4; more than 10^308 gaps of 2^-1074 at "
+     "max_x, and 4 are allowed; 1,024 in the map's units"),
     ([(MATRICES, 0, ("farm", 0, 1, 1, 256, 256, -1e308, 4.0)), (SETS, 0, ("farm", 4326, 0.0, 0.0, 1e308, 1024.0))],
      Finding(451, 0, None),
      '"farm" zoom 0: max_x 1e+308 - min_x 0.0 = 1e+308, but matrix_width 1 * tile_width 256 * pixel_x_size -1e+308 = '
-     "-inf"),
+     "-inf; that is neither near nor within gaps, since -inf is not finite and above 0"),
     ([(MATRICES, 1, ("farm", 1, 2, 2**62, 256, 256, 2.0, 2.0))], Finding(452, 1, None),
      '"farm" zoom 1: max_y 1024.0 - min_y 0.0 = 1024.0, but matrix_height 4611686018427387904 * tile_height 256 is '
-     "above 2^53"),
+     "above 2^53, so nothing is compared"),
+    ([(MATRICES, 1, ("farm", 1, 0, 2, 256, 256, 2.0, 2.0))], Finding(451, 1, None),
+     '"farm" zoom 1: max_x 1024.0 - min_x 0.0 = 1024.0, but matrix_width 0 * tile_width 256 is no width, so nothing is '
+     "compared"),
+    # Both negative: their product is the right width, and none the less there is none.
+    ([(MATRICES, 1, ("farm", 1, 2, -2, 256, -256, 2.0, 2.0))], Finding(452, 1, None),
+     '"farm" zoom 1: max_y 1024.0 - min_y 0.0 = 1024.0, but matrix_height -2 * tile_height -256 is no height, so '
+     "nothing is compared"),
     ([(MATRICES, 1, ("farm", 1, 0, 2, 256, 256, 2.0, 2.0))], Finding(471, 1, None),
      '"farm" zoom 1: matrix_width is 0, below 1'),
     ([(MATRICES, 1, ("farm", 1, 2, 2, 256, 256, 2.0, 4.0))], Finding(531, 1, 0),
@@ -80,6 +121,15 @@ WORDS: "List[Tuple[List[Change], Finding, str]]" = [
      '"gpkg_webp": column_name is "x" and table_name is NULL'),
     ([(EXTENSIONS, 0, ("farm", None, "gpkg_webp", "rw"))], Finding(641, 0, None), '"gpkg_webp": scope is "rw"'),
 ]
+
+
+def tells_of_a_pass(known: Known, finding: Finding) -> bool:
+    """Whether the numbers that are told of a finding of 451 or 452 say that there is none."""
+    if finding.code not in SIDES or finding.row is None:
+        return False
+    compared = lengths(known, finding.code, finding.row)
+    steps, gaps = compared.steps(), compared.gaps()
+    return (steps is not None and steps <= 4) or (gaps is not None and gaps <= 4)
 
 
 @needs_library
@@ -107,6 +157,7 @@ class FindingsInWords(InRoom):
                 with self.subTest(seed=seed):
                     known = Known(Listing(listing))
                     self.assertTrue(all(words(known, finding) for finding in answer))
+                    self.assertEqual([finding for finding in answer if tells_of_a_pass(known, finding)], [])
                     xml.dom.minidom.parseString(picture.drawn("made", Listing(listing), answer))
 
 

@@ -11,7 +11,7 @@ from .console import UNUSABLE, counted, plain
 from .listing import TABLES, Table, Value
 from .many import Outcome
 from .rules import RULES, Finding
-from .words import SIDES, Known, lengths, words
+from .words import SIDES, Known, finite, lengths, words
 
 # A matrix that is off by less than this share of its extent is no map in the wrong place.
 SLIGHT = 1e-9
@@ -132,10 +132,6 @@ def json_pieces(judged: Judged, wanted: Wanted, trouble: Optional[str]) -> Itera
 
 def finding_object(judged: Judged, known: Known, finding: Finding) -> Dict[str, object]:
     rule = RULES[finding.code]
-    off: Dict[str, object] = {}
-    if finding.code in SIDES and finding.row is not None:
-        compared = lengths(known, finding.code, finding.row)
-        off = {"off": compared.off(), "off_share": compared.share()}
     return {
         "code": finding.code,
         "rule": rule.words,
@@ -144,9 +140,23 @@ def finding_object(judged: Judged, known: Known, finding: Finding) -> Dict[str, 
         "row": finding.row,
         "partner": finding.partner,
         "words": words(known, finding),
-        **off,
+        **apart(known, finding),
         "found_at": row_object(judged, rule.table, finding.row),
         "partner_at": row_object(judged, rule.partner_table, finding.partner),
+    }
+
+
+def apart(known: Known, finding: Finding) -> Dict[str, object]:
+    """Of 451 and 452, how far their lengths are apart; what is no finite number is null."""
+    if finding.code not in SIDES or finding.row is None:
+        return {}
+    compared = lengths(known, finding.code, finding.row)
+    gaps = compared.gaps()
+    return {
+        "off": compared.off(),
+        "off_share": compared.share(),
+        "steps": compared.steps(),
+        "gaps": None if gaps is None else finite(gaps),
     }
 
 

@@ -16,6 +16,9 @@ LARGEST_EXACT = 2**53
 # How many steps from one double to the next still count as near.
 NEAR_STEPS = 4
 
+# How many gaps 451 and 452 let two lengths differ by that are not near.
+GAPS_ALLOWED = 4
+
 
 class Known:
     """The rows of one accepted listing, with what the words ask for again and again."""
@@ -197,22 +200,51 @@ def pixel_sizes(row: Matrix, lower: Matrix) -> List[Tuple[str, float, float]]:
 
 
 class Lengths(NamedTuple):
-    """What 451 and 452 compare: the extent of the matrix set and the length of the matrix, which is None where its
-    tiles and pixels make none."""
+    """What 451 and 452 compare: the extent of the matrix set between its two corners of one axis, and the length of the
+    matrix, which is None where its tiles and pixels make none."""
 
-    extent: float
+    least: float
+    most: float
     product: Optional[float]
 
+    @property
+    def extent(self) -> float:
+        return self.most - self.least
+
+    def unfit(self) -> List[float]:
+        """Those that are not finite and above 0: the rule compares them in neither way."""
+        lengths = [self.extent] if self.product is None else [self.extent, self.product]
+        return [length for length in lengths if not is_positive(length)]
+
     def off(self) -> Optional[float]:
-        """How far they are apart, in the map's units; None where that is no number."""
-        off = math.nan if self.product is None else abs(self.product - self.extent)
-        return off if math.isfinite(off) else None
+        """How far they are apart, in the map's units and rounded once; None where that is no number."""
+        return None if self.product is None else finite(abs(self.product - self.extent))
 
     def share(self) -> Optional[float]:
         """The same as a share of the extent; None where there is no extent to have a share of."""
         off = self.off()
-        share = off / self.extent if off is not None and is_positive(self.extent) else math.nan
-        return share if math.isfinite(share) else None
+        return finite(off / self.extent) if off is not None and is_positive(self.extent) else None
+
+    def steps(self) -> Optional[int]:
+        """The same in steps; None where the rule does not compare them."""
+        return None if self.product is None or self.unfit() else steps(self.product, self.extent)
+
+    def larger_corner(self) -> Tuple[str, float]:
+        """The corner larger in magnitude, and that magnitude."""
+        return max(("max", abs(self.most)), ("min", abs(self.least)), key=lambda corner: corner[1])
+
+    def gap(self) -> Optional[float]:
+        """From the corner larger in magnitude to the next double above that magnitude; None at the greatest double."""
+        magnitude = self.larger_corner()[1]
+        return finite(next_above(magnitude) - magnitude)
+
+    def gaps(self) -> Optional[float]:
+        """How far they are apart in gaps, which is exact, since a gap is a power of two; infinity is more than a double
+        can tell. None where there is no gap, or the rule does not compare them."""
+        if self.unfit():
+            return None
+        off, gap = self.off(), self.gap()
+        return None if off is None or gap is None else off / gap
 
 
 # The axis and the side of the two codes.
@@ -226,29 +258,51 @@ def lengths(known: Known, code: int, row: int) -> Lengths:
     tiles, pixels = getattr(matrix, f"matrix_{side}"), getattr(matrix, f"tile_{side}")
     has_length = tiles >= 1 and pixels >= 1 and tiles * pixels <= LARGEST_EXACT
     return Lengths(
-        getattr(extent, f"max_{axis}") - getattr(extent, f"min_{axis}"),
+        getattr(extent, f"min_{axis}"),
+        getattr(extent, f"max_{axis}"),
         float(tiles * pixels) * getattr(matrix, f"pixel_{axis}_size") if has_length else None,
     )
 
 
 def wrong_side(code: int) -> Words:
-    """451 and 452: the two lengths that should be near, worked out."""
+    """451 and 452: the two lengths that should be near, or within gaps, worked out."""
 
     def told(known: Known, found: Found) -> str:
         axis, side = SIDES[code]
         row = known.matrices[found.row]
-        extent = known.first_set[row.table_name]
-        least, most = getattr(extent, f"min_{axis}"), getattr(extent, f"max_{axis}")
         tiles, pixels = getattr(row, f"matrix_{side}"), getattr(row, f"tile_{side}")
         compared = lengths(known, code, found.row)
-        start = f"{level(row)}: max_{axis} {most!r} - min_{axis} {least!r} = {compared.extent!r}, but "
-        names = f"matrix_{side} {tiles} * tile_{side} {pixels}"
+        corners = f"max_{axis} {compared.most!r} - min_{axis} {compared.least!r}"
+        start = f"{level(row)}: {corners} = {compared.extent!r}, but matrix_{side} {tiles} * tile_{side} {pixels}"
         if compared.product is None:
-            return f"{start}{names} is " + (f"no {side}" if tiles < 1 or pixels < 1 else "above 2^53")
+            fault = f"no {side}" if tiles < 1 or pixels < 1 else "above 2^53"
+            return f"{start} is {fault}, so nothing is compared"
         size = getattr(row, f"pixel_{axis}_size")
-        return f"{start}{names} * pixel_{axis}_size {size!r} = {compared.product!r}{distance(compared)}"
+        apart = "; ".join([*missed(compared, axis), *weights(compared)])
+        return f"{start} * pixel_{axis}_size {size!r} = {compared.product!r}; that is {apart}"
 
     return told
+
+
+def missed(compared: Lengths, axis: str) -> List[str]:
+    """How the two lengths miss both ways in which they could pass."""
+    unfit = compared.unfit()
+    if unfit:
+        those = " and ".join(map(repr, unfit)) + (" is" if len(unfit) == 1 else " are")
+        return [f"neither near nor within gaps, since {those} not finite and above 0"]
+    corner = f"{compared.larger_corner()[0]}_{axis}"
+    gap, gaps = compared.gap(), compared.gaps()
+    if gap is None or gaps is None:
+        in_gaps = f"without a gap to count in, since {corner} is the greatest double in magnitude"
+    else:
+        in_gaps = f"{above_allowed(gaps)} gaps of {power_of_two(gap)} at {corner}, and {GAPS_ALLOWED} are allowed"
+    return [f"{compared.steps():,} steps off, and near allows {NEAR_STEPS}", in_gaps]
+
+
+def weights(compared: Lengths) -> List[str]:
+    """How far two lengths are apart in numbers that a person can weigh."""
+    weighings = {"in the map's units": compared.off(), "of the extent": compared.share()}
+    return [f"{weighed(number)} {unit}" for unit, number in weighings.items() if number is not None]
 
 
 def below(column: str, least: int) -> Words:
@@ -332,27 +386,27 @@ def is_positive(value: float) -> bool:
     return 0 < value < float("inf")
 
 
+def finite(value: float) -> Optional[float]:
+    return value if math.isfinite(value) else None
+
+
+def pattern(value: float) -> int:
+    """The octets of a double that is not negative as a whole number."""
+    return int(struct.unpack("<q", struct.pack("<d", value))[0])
+
+
 def steps(one: float, other: float) -> int:
     """How many steps it is from one positive double to the other."""
-    patterns = struct.unpack("<2q", struct.pack("<2d", one, other))
-    return abs(int(patterns[0]) - int(patterns[1]))
+    return abs(pattern(one) - pattern(other))
+
+
+def next_above(value: float) -> float:
+    """The next double above one that is finite and not negative; above the greatest that is infinity."""
+    return float(struct.unpack("<d", struct.pack("<q", pattern(value) + 1))[0])
 
 
 def is_near(one: float, other: float) -> bool:
     return is_positive(one) and is_positive(other) and steps(one, other) <= NEAR_STEPS
-
-
-def distance(compared: Lengths) -> str:
-    """How far two lengths are apart: in steps, for the rule, and in numbers that a person can weigh."""
-    parts = []
-    if compared.product is not None and is_positive(compared.product) and is_positive(compared.extent):
-        parts.append(f"{steps(compared.product, compared.extent):,} steps off, and {NEAR_STEPS} are allowed")
-    off, share = compared.off(), compared.share()
-    if off is not None:
-        parts.append(f"{weighed(off)} in the map's units")
-    if share is not None:
-        parts.append(f"{weighed(share)} of the extent")
-    return f"; that is {'; '.join(parts)}" if parts else ""
 
 
 def weighed(number: float) -> str:
@@ -360,6 +414,17 @@ def weighed(number: float) -> str:
     if number != 0 and not 0.001 <= number < 1e9:
         return f"{number:.3g}"
     return f"{number:,.3f}".rstrip("0").rstrip(".")
+
+
+def power_of_two(number: float) -> str:
+    return f"2^{math.frexp(number)[1] - 1}"
+
+
+def above_allowed(gaps: float) -> str:
+    """A number of gaps that is above the allowed one, in few digits that do not say otherwise."""
+    if math.isinf(gaps):
+        return "more than 10^308"
+    return f"more than {GAPS_ALLOWED}" if weighed(gaps) == str(GAPS_ALLOWED) else weighed(gaps)
 
 
 WITHOUT_A_ROW: Dict[int, Callable[[Known], str]] = {
