@@ -25,7 +25,7 @@ SAMPLES = ROOT / "samples"
 @needs_library
 class Packs(InRoom):
     def test_samples_print_what_stands_beside_them(self) -> None:
-        for name, status in {"valley": 1, "meadow": 0}.items():
+        for name, status in {"hill": 0, "meadow": 0, "slope": 1, "valley": 1}.items():
             with self.subTest(name):
                 ran = Ran(["tools/gpkg-check", f"samples/packs/{name}.gpkg"])
                 self.assertEqual((ran.status, ran.err), (status, ""))

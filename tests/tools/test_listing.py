@@ -20,7 +20,12 @@ from desterlin.listing import Draft, Listing
 @needs_library
 class SamplePacks(InRoom):
     def test_findings_are_the_planted_ones(self) -> None:
-        for name, printed in {"valley": "finding 541 16 4\ntotal 1\n", "meadow": "total 0\n"}.items():
+        for name, printed in {
+            "hill": "total 0\n",
+            "meadow": "total 0\n",
+            "slope": "finding 351 2 1\nfinding 451 2 -\nfinding 452 2 -\ntotal 3\n",
+            "valley": "finding 541 16 4\ntotal 1\n",
+        }.items():
             with self.subTest(name):
                 ran = Ran([TOOLS / "gpkg-listing", PACKS / f"{name}.gpkg", "-"])
                 self.assertEqual((ran.status, ran.err), (0, ""))
@@ -29,7 +34,9 @@ class SamplePacks(InRoom):
     def test_script_makes_them_again(self) -> None:
         ran = Ran([PACKS / "make-packs", self.room])
         self.assertEqual((ran.status, ran.err), (0, ""))
-        for name in ["valley.gpkg", "meadow.gpkg"]:
+        names = [path.name for path in sorted(self.room.iterdir())]
+        self.assertEqual(names, [path.name for path in sorted(PACKS.glob("*.gpkg"))])
+        for name in names:
             made, kept = self.room / name, PACKS / name
             self.assertEqual(self.listing_of(made), self.listing_of(kept))
             if made.read_bytes() != kept.read_bytes():
@@ -42,6 +49,11 @@ SRS, CONTENTS, SETS = "gpkg_spatial_ref_sys", "gpkg_contents", "gpkg_tile_matrix
 MATRICES, EXTENSIONS, FARM = "gpkg_tile_matrix", "gpkg_extensions", "farm"
 SET = ("farm", 4326, 0.0, 0.0, 1024.0, 1024.0)
 LEVEL_1 = ("farm", 1, 2, 2, 256, 256, 2.0, 2.0)
+# From 2^22 on doubles are 2^-30 apart; pixels too large by one part in 2^38 make 1,024 m longer by four such gaps.
+FAR = ("farm", 4326, 2.0**22, 2.0**22, 2.0**22 + 1024, 2.0**22 + 1024)
+LONG_0 = ("farm", 0, 1, 1, 256, 256, 4 + 2.0**-36, 4 + 2.0**-36)
+LONG_1 = ("farm", 1, 2, 2, 256, 256, 2 + 2.0**-37, 2 + 2.0**-37)
+LONGER_0 = ("farm", 0, 1, 1, 256, 256, 4 + 2.0**-36 + 2.0**-50, 4 + 2.0**-36)
 INFINITE = float("inf")
 PLANTED: "List[Tuple[str, List[Change], List[str]]]" = [
     ("101", [(SRS, None, (0, "NONE", 0, "undefined"))], ["101 3 2"]),
@@ -79,6 +91,17 @@ PLANTED: "List[Tuple[str, List[Change], List[str]]]" = [
     ("452 by a set", [(SETS, 0, ("farm", 4326, 0.0, 0.0, 1024.0, 1024.5))], ["452 0 -", "452 1 -"]),
     ("451 is not for a number near", [(SETS, 0, ("farm", 4326, 0.0, 0.0, 1024.0000000000009, 1024.0))], []),
     ("451, five steps off", [(SETS, 0, ("farm", 4326, 0.0, 0.0, 1024.0000000000011, 1024.0))], ["451 0 -", "451 1 -"]),
+    ("451 and 452 are not for four gaps", [(SETS, 0, FAR), (MATRICES, 0, LONG_0), (MATRICES, 1, LONG_1)], []),
+    ("451, beyond four gaps", [(SETS, 0, FAR), (MATRICES, 0, LONGER_0), (MATRICES, 1, LONG_1)], ["451 0 -"]),
+    (
+        "452 alone, since the gaps of x are none of y's",
+        [
+            (SETS, 0, ("farm", 4326, 2.0**22, 0.0, 2.0**22 + 1024, 1024.0)),
+            (MATRICES, 0, LONG_0),
+            (MATRICES, 1, LONG_1),
+        ],
+        ["452 0 -", "452 1 -"],
+    ),
     (
         "461, with the level below that 351 and 531 need",
         [(MATRICES, None, ("farm", -1, 1, 1, 256, 256, 4.0, 4.0))],

@@ -190,11 +190,11 @@ class WrittenBack(unittest.TestCase):
         self.assertTrue(self.is_tried(Ran([SECOND, "full", "pyramids", 262_144]).octets))
 
     def test_packs(self) -> None:
-        """The listings beside the packs are older than the writer: their headers were laid by code that is gone."""
-        for name in ["valley", "meadow"]:
-            ran = Ran(["tools/gpkg-listing", PACKS / f"{name}.gpkg", "-"])
+        """The headers of the listings beside the packs were laid by code that is gone, and not by the writer."""
+        for pack in sorted(PACKS.glob("*.gpkg")):
+            ran = Ran(["tools/gpkg-listing", pack, "-"])
             self.assertEqual((ran.status, ran.err), (0, ""))
-            self.assertEqual(ran.octets, (PACKS / f"{name}.listing").read_bytes())
+            self.assertEqual(ran.octets, pack.with_suffix(".listing").read_bytes(), pack.name)
 
 
 @needs_library
