@@ -4,7 +4,7 @@
 #
 #     samples/packs/with-gdal.sh [FOLDER]      FOLDER keeps the packs; without it they are thrown away
 #
-# docs/RULES.md, "What real packs show", says why good packs can have 451, 452 and 351.
+# All of them are good. docs/RULES.md, "What real packs show", says why the last two have findings all the same.
 set -euo pipefail
 cd "$(dirname "$0")/../.."
 
@@ -41,3 +41,5 @@ make_and_check tenth "pixels of 0.1 m, far from the origin" EPSG:32632 500000 52
 make_and_check second "pixels of one arc-second" EPSG:4326 7 47 0.00027777777777777778
 make_and_check mercator "the tiling scheme GoogleMapsCompatible" EPSG:3857 0 5009377.0856973110 4.7773142671557 \
   -co TILING_SCHEME=GoogleMapsCompatible
+make_and_check twentieth "pixels of 0.05 m, their sizes cut to 16 digits" EPSG:32632 500000 5200051.2 0.05
+make_and_check degrees "pixels of 0.00001 degrees, a corner cut to 16 digits" EPSG:4326 11 47 0.00001
