@@ -2,7 +2,8 @@
 //! way it made them, the judge must say of them.
 
 use second::calls::{lookup, report, verdict, Verdict};
-use second::generate::{full, generate, good_pack, one_fault, questions, FULL_KINDS, LIMITS};
+use second::generate::{full, generate, good_pack, one_fault, one_span, questions};
+use second::generate::{FULL_KINDS, LIMITS};
 use second::listing::NONE;
 use second::rules::CODES;
 
@@ -24,6 +25,18 @@ fn planted_faults_show_and_their_near_misses_do_not() {
         shown[usize::from(shows)] += 1;
     }
     assert!(shown[0] > 1_000 && shown[1] > 1_000, "{shown:?}");
+}
+
+#[test]
+fn spans_show_where_they_are_beyond_the_edge() {
+    let mut shown = [0; 2];
+    for seed in 0..50_000 {
+        let (listing, must_show) = one_span(seed);
+        let shows = [451, 452].map(|code| verdict(&listing, code) == Ok(Verdict::Fail(0)));
+        assert_eq!(shows, must_show, "seed {seed}");
+        shown[usize::from(shows[0])] += 1;
+    }
+    assert!(shown[0] > 10_000 && shown[1] > 10_000, "{shown:?}");
 }
 
 #[test]

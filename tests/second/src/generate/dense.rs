@@ -1,7 +1,8 @@
 //! Listings in which every row is at the edge of some rule: many pyramids of
 //! a few rows each, so that rare meetings come often.
 
-use super::plant::{span_edges, stepped, EXTENSION_NAMES, SCOPES};
+use super::plant::{EXTENSION_NAMES, SCOPES};
+use super::spans::{span_edge, stepped, SpanEdge};
 use super::Random;
 use crate::make::{Draft, MatrixRow, NULL};
 
@@ -11,23 +12,26 @@ const MOMENT: &str = "2024-02-29T00:00:00.000Z";
 pub fn spans(random: &mut Random) -> Draft {
     let mut draft = Draft::default();
     for number in 0..4 + random.below(30) {
-        let name = format!("s{number}");
-        let edges = [0; 2].map(|_| random.pick(&span_edges()));
-        let [x, y] = edges;
-        draft.set(&name, 0, [x.low, y.low, x.high, y.high]);
-        let row = MatrixRow {
-            table_name: draft.text(&name),
-            zoom: 0,
-            matrix_width: x.tiles,
-            matrix_height: y.tiles,
-            tile_width: x.pixels,
-            tile_height: y.pixels,
-            pixel_x_size: x.size,
-            pixel_y_size: y.size,
-        };
-        draft.matrices.push(row);
+        let edges = [0; 2].map(|_| span_edge(random));
+        add_span(&mut draft, &format!("s{number}"), edges);
     }
     draft
+}
+
+/// One set row and one matrix row with these axes.
+pub fn add_span(draft: &mut Draft, name: &str, [x, y]: [SpanEdge; 2]) {
+    draft.set(name, 0, [x.low, y.low, x.high, y.high]);
+    let table_name = draft.text(name);
+    draft.matrices.push(MatrixRow {
+        table_name,
+        zoom: 0,
+        matrix_width: x.tiles,
+        matrix_height: y.tiles,
+        tile_width: x.pixels,
+        tile_height: y.pixels,
+        pixel_x_size: x.size,
+        pixel_y_size: y.size,
+    });
 }
 
 /// Some levels a name, at the least and the greatest zooms too, each size

@@ -14,6 +14,7 @@ mod questions;
 mod random;
 mod sizes;
 mod small;
+mod spans;
 
 pub use full::{full, FULL_KINDS};
 pub use limits::LIMITS;
@@ -103,6 +104,16 @@ pub fn one_fault(seed: u64) -> (Vec<u8>, u32, bool) {
     let mut draft: Draft = packs::good(&mut random);
     let shows = (plant.plant)(&mut random, &mut draft);
     (draft.listing(), plant.code, shows)
+}
+
+/// A set row and a matrix row, each axis at the edge of fitting, and what the
+/// maker knows of them: whether 451 must show, and whether 452 must.
+pub fn one_span(seed: u64) -> (Vec<u8>, [bool; 2]) {
+    let mut random = Random::new(seed);
+    let edges = [0; 2].map(|_| spans::span_edge(&mut random));
+    let mut draft = Draft::default();
+    dense::add_span(&mut draft, "s", edges);
+    (draft.listing(), edges.map(|edge| edge.shows))
 }
 
 /// A good pack.

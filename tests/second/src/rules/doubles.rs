@@ -1,4 +1,6 @@
-//! Doubles: sizes, "near", and the width test of 451 and 452.
+//! Doubles: sizes, "near", and the two ways to pass 451 and 452.
+
+use super::exact;
 
 /// Finite and above 0: what a size has to be.
 pub fn is_size(value: f64) -> bool {
@@ -14,12 +16,59 @@ pub fn is_near(one: f64, other: f64) -> bool {
 /// The greatest product of a matrix size and a tile size: 2^53.
 const GREATEST_PRODUCT: i128 = 1 << 53;
 
-/// Does a matrix of so many tiles, each of so many pixels, span from `low` to
-/// `high`? The product is taken in 128 bits, since 64 would wrap.
-pub fn is_spanned(low: f64, high: f64, tiles: i64, pixels: i64, pixel_size: f64) -> bool {
-    if tiles < 1 || pixels < 1 {
-        return false;
+/// What 451 and 452 look at: the corners of a set row along one axis, and of a
+/// matrix row how many tiles there are along it, how many pixels a tile has, and
+/// how long a pixel is.
+#[derive(Clone, Copy, Debug)]
+pub struct Axis {
+    pub low: f64,
+    pub high: f64,
+    pub tiles: i64,
+    pub pixels: i64,
+    pub pixel_size: f64,
+}
+
+impl Axis {
+    /// Does the matrix span the extent? The exact way is asked last, since few
+    /// rows need it.
+    pub fn is_spanned(&self) -> bool {
+        self.product().is_some_and(|count| self.is_near(count) || self.is_within_gaps(count))
     }
-    let product = i128::from(tiles) * i128::from(pixels);
-    product <= GREATEST_PRODUCT && is_near(high - low, product as f64 * pixel_size)
+
+    /// How many pixels there are, where the width conditions hold. The product
+    /// is taken in 128 bits, since 64 would wrap.
+    pub fn product(&self) -> Option<u64> {
+        let product = i128::from(self.tiles) * i128::from(self.pixels);
+        let is_allowed = self.tiles > 0 && self.pixels > 0 && product <= GREATEST_PRODUCT;
+        is_allowed.then_some(product as u64)
+    }
+
+    /// Document 01's way: the extent is near the product with the pixel size.
+    pub fn is_near(&self, count: u64) -> bool {
+        is_near(self.high - self.low, count as f64 * self.pixel_size)
+    }
+
+    /// The way of request 2026-02: extent and product with the pixel size differ
+    /// by at most four gaps. Four times a gap is exact.
+    pub fn is_within_gaps(&self, count: u64) -> bool {
+        let four_gaps = self.gap().and_then(|gap| exact::product(4, gap));
+        let both = self.difference(count).zip(four_gaps);
+        both.is_some_and(|(difference, four_gaps)| difference.abs() <= four_gaps)
+    }
+
+    /// From the corner larger in magnitude to the next double above that
+    /// magnitude, if it is finite.
+    pub fn gap(&self) -> Option<f64> {
+        let is_low_larger = self.low.abs() > self.high.abs();
+        exact::gap_above(if is_low_larger { self.low } else { self.high })
+    }
+
+    /// The extent less the product with the pixel size, each of the three rounded
+    /// once, if both are finite and above 0.
+    pub fn difference(&self, count: u64) -> Option<f64> {
+        let extent = exact::difference(self.high, self.low)?;
+        let measured = exact::product(count, self.pixel_size)?;
+        let are_sizes = is_size(extent) && is_size(measured);
+        exact::difference(extent, measured).filter(|_| are_sizes)
+    }
 }

@@ -1,6 +1,6 @@
 //! Codes of the matrices: 351, 431, 432, 451, 452, 461 to 531.
 
-use super::doubles::{is_near, is_size, is_spanned};
+use super::doubles::{is_near, is_size, Axis};
 use super::judge::Judge;
 use super::{over_rows, when, Findings};
 use crate::listing::{Extent, Matrix};
@@ -46,30 +46,54 @@ pub fn rule_432<'j>(judge: &'j Judge<'_>) -> Findings<'j> {
 
 /// 451: the first set row's extent in x is not spanned.
 pub fn rule_451<'j>(judge: &'j Judge<'_>) -> Findings<'j> {
-    by_extent(judge, 451, |m, extent| {
-        let (low, high) = (extent.min_x, extent.max_x);
-        is_spanned(low, high, m.matrix_width, m.tile_width, m.pixel_x_size)
-    })
+    by_axis(judge, 451, x_axis)
 }
 
 /// 452: likewise for y.
 pub fn rule_452<'j>(judge: &'j Judge<'_>) -> Findings<'j> {
-    by_extent(judge, 452, |m, extent| {
-        let (low, high) = (extent.min_y, extent.max_y);
-        is_spanned(low, high, m.matrix_height, m.tile_height, m.pixel_y_size)
+    by_axis(judge, 452, y_axis)
+}
+
+fn x_axis(matrix: &Matrix, extent: Extent) -> Axis {
+    Axis {
+        low: extent.min_x,
+        high: extent.max_x,
+        tiles: matrix.matrix_width,
+        pixels: matrix.tile_width,
+        pixel_size: matrix.pixel_x_size,
+    }
+}
+
+fn y_axis(matrix: &Matrix, extent: Extent) -> Axis {
+    Axis {
+        low: extent.min_y,
+        high: extent.max_y,
+        tiles: matrix.matrix_height,
+        pixels: matrix.tile_height,
+        pixel_size: matrix.pixel_y_size,
+    }
+}
+
+/// The findings of a code that asks whether an axis is spanned.
+fn by_axis<'j>(judge: &'j Judge<'_>, code: u32, axis: fn(&Matrix, Extent) -> Axis) -> Findings<'j> {
+    over_rows(code, judge.matrices.len(), move |row| {
+        when(!axis(&judge.matrices[row], first_extent(judge, row)?).is_spanned())
     })
 }
 
-/// The findings of a code that holds a matrix row against the first set row of
-/// its name, where there is one.
-fn by_extent<'j>(
-    judge: &'j Judge<'_>,
-    code: u32,
-    fits: fn(&Matrix, Extent) -> bool,
-) -> Findings<'j> {
-    over_rows(code, judge.matrices.len(), move |row| {
-        let set = *judge.facts_of(judge.matrix_names[row])?.sets.first()?;
-        when(!fits(&judge.matrices[row], judge.sets[set].extent))
+/// What a matrix row is held against: the extent of the first set row of its
+/// name, where there is one.
+fn first_extent(judge: &Judge<'_>, row: usize) -> Option<Extent> {
+    let set = *judge.facts_of(judge.matrix_names[row])?.sets.first()?;
+    Some(judge.sets[set].extent)
+}
+
+/// What 451 and 452 look at, in each matrix row that they judge.
+pub fn axes<'j>(judge: &'j Judge<'_>) -> impl Iterator<Item = [Axis; 2]> + 'j {
+    let rows = judge.matrices.iter().enumerate();
+    rows.filter_map(|(row, matrix)| {
+        let extent = first_extent(judge, row)?;
+        Some([x_axis(matrix, extent), y_axis(matrix, extent)])
     })
 }
 

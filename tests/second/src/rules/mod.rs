@@ -1,10 +1,11 @@
 //! The 36 codes and what breaks each of them: document 01, "What counts as a
-//! finding".
+//! finding", and request 2026-02.
 
 mod codes;
 mod contents;
 mod dates;
 mod doubles;
+mod exact;
 mod extensions;
 mod hashing;
 mod judge;
@@ -15,7 +16,9 @@ mod sets;
 mod tiles;
 
 pub use codes::{code_named, Code, CODES};
+pub use doubles::Axis;
 pub use judge::Judge;
+pub use matrices::axes;
 
 use crate::listing::NONE;
 

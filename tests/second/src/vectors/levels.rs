@@ -41,13 +41,16 @@ fn check_both_sides(tally: &mut Tally) {
 }
 
 /// Near twice: four steps and five, above and below, in x and in y. The
-/// valley's level 0 has pixels of 4.0, and 256 times that is its extent.
+/// valley's level 0 has pixels of 4.0, and 256 times that is its extent. Request
+/// 2026-02 changes nothing in 351, and lets 451 and 452 pass to eight steps below.
 fn check_near(tally: &mut Tally) {
     for (count, in_x, in_y) in [
         (4, "", ""),
         (5, "351 1 0, 451 0 -", "351 1 0, 452 0 -"),
         (-4, "", ""),
-        (-5, "351 1 0, 451 0 -", "351 1 0, 452 0 -"),
+        (-5, "351 1 0", "351 1 0"),
+        (-8, "351 1 0", "351 1 0"),
+        (-9, "351 1 0, 451 0 -", "351 1 0, 452 0 -"),
     ] {
         tally.changed(&format!("351: x {count} steps"), in_x, |d| {
             d.matrices[0].pixel_x_size = steps(4.0, count);

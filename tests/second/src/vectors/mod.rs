@@ -10,6 +10,7 @@ mod base;
 mod calls;
 mod contents;
 mod extensions;
+mod far;
 mod layout;
 mod levels;
 mod limits;
@@ -56,6 +57,7 @@ pub fn run(samples: PathBuf) -> Tally {
     contents::check(&mut tally);
     levels::check(&mut tally);
     spans::check(&mut tally);
+    far::check(&mut tally);
     matrices::check(&mut tally);
     tiles::check(&mut tally);
     extensions::check(&mut tally);

@@ -10,7 +10,6 @@ mod rows;
 mod tiles;
 
 pub(super) use extensions::{NAMES as EXTENSION_NAMES, SCOPES};
-pub(super) use pyramids::{span_edges, stepped};
 
 use super::{packs, Random};
 use crate::make::{Draft, SetRow, Span};

@@ -2,13 +2,9 @@
 //! and 531.
 
 use super::{any_row, ghost, is_same};
+use crate::generate::spans::{edge_size, span_edge, stepped};
 use crate::generate::Random;
-use crate::make::{Draft, MatrixRow, TileRow, NULL};
-
-/// The double so many steps away from a positive one.
-pub fn stepped(size: f64, steps: i64) -> f64 {
-    f64::from_bits(size.to_bits().wrapping_add_signed(steps))
-}
+use crate::make::{Draft, MatrixRow, SetRow, TileRow, NULL};
 
 /// Steps on both sides of near, and whether they are too many.
 const STEPS: [(i64, bool); 6] =
@@ -100,24 +96,35 @@ fn plant_span(random: &mut Random, draft: &mut Draft, axis: usize) -> bool {
             true
         }
         2 => plant_second_set(random, draft, row, axis),
-        _ => plant_steps(random, &mut draft.matrices[row], axis),
+        _ => plant_size_at_edge(random, draft, row, axis),
     }
 }
 
-/// Moves a pixel size by some steps. Where the product is a power of two, the
-/// extent moves by as many; where it is not, by half as many to twice as many.
-fn plant_steps(random: &mut Random, matrix: &mut MatrixRow, axis: usize) -> bool {
+/// A pixel size at the edge of fitting the first set row. Rows that other faults
+/// were planted in may have none.
+fn plant_size_at_edge(random: &mut Random, draft: &mut Draft, row: usize, axis: usize) -> bool {
+    let Some(set) = first_set(draft, row) else {
+        return false;
+    };
+    let (low, high) = (set.corners[axis], set.corners[axis + 2]);
+    let matrix = &mut draft.matrices[row];
     let product = match axis {
         0 => matrix.matrix_width.wrapping_mul(matrix.tile_width),
         _ => matrix.matrix_height.wrapping_mul(matrix.tile_height),
     };
-    let (steps, shows) = match product.count_ones() {
-        1 => random.pick(&STEPS),
-        _ => random.pick(&[(1, false), (-1, false), (40, true), (-40, true)]),
-    };
-    let size = pixel_of(axis, matrix);
-    *size = stepped(*size, steps);
+    let magnitude = low.abs().max(high.abs());
+    let is_ordinary = (1e-9..1e9).contains(&magnitude) && (high - low) / magnitude > 1e-12;
+    if !is_ordinary || !(1..1 << 40).contains(&product) {
+        return false;
+    }
+    let (size, shows) = edge_size(random, low, high, product as u64);
+    *pixel_of(axis, matrix) = size;
     shows
+}
+
+fn first_set(draft: &Draft, row: usize) -> Option<SetRow> {
+    let name = draft.matrices[row].table_name;
+    draft.sets.iter().find(|set| is_same(draft, set.table_name, name)).copied()
 }
 
 fn set_tiles_and_pixels(matrix: &mut MatrixRow, axis: usize, tiles: i64, pixels: i64) {
@@ -129,12 +136,9 @@ fn set_tiles_and_pixels(matrix: &mut MatrixRow, axis: usize, tiles: i64, pixels:
 
 /// A second set row that does not fit changes nothing; a first one does.
 fn plant_second_set(random: &mut Random, draft: &mut Draft, row: usize, axis: usize) -> bool {
-    let name = draft.matrices[row].table_name;
-    let set = draft.sets.iter().find(|set| is_same(draft, set.table_name, name));
-    let Some(&set) = set else {
+    let Some(mut misfit) = first_set(draft, row) else {
         return false;
     };
-    let mut misfit = set;
     misfit.corners[axis + 2] = misfit.corners[axis];
     let is_first = random.once_in(2);
     let at = if is_first { 0 } else { draft.sets.len() };
@@ -142,60 +146,10 @@ fn plant_second_set(random: &mut Random, draft: &mut Draft, row: usize, axis: us
     is_first
 }
 
-const TWO_TO_53: f64 = 9_007_199_254_740_992.0;
-
-/// One axis of a pyramid at the edge of fitting.
-#[derive(Clone, Copy)]
-pub struct SpanEdge {
-    pub low: f64,
-    pub high: f64,
-    pub tiles: i64,
-    pub pixels: i64,
-    pub size: f64,
-    /// Does it break 451 (or 452)?
-    shows: bool,
-}
-
-const fn edge(low: f64, high: f64, tiles: i64, pixels: i64, size: f64, shows: bool) -> SpanEdge {
-    SpanEdge { low, high, tiles, pixels, size, shows }
-}
-
-pub fn span_edges() -> [SpanEdge; 26] {
-    let bits = f64::from_bits;
-    [
-        edge(0.0, 1024.0, 4, 256, 1.0, false),
-        edge(0.0, 1024.0, 4, 256, stepped(1.0, 4), false),
-        edge(0.0, 1024.0, 4, 256, stepped(1.0, -4), false),
-        edge(0.0, 1024.0, 4, 256, stepped(1.0, 5), true),
-        edge(0.0, 1024.0, 4, 256, stepped(1.0, -5), true),
-        edge(0.0, TWO_TO_53, 1 << 53, 1, 1.0, false),
-        edge(0.0, TWO_TO_53, 1, 1 << 53, 1.0, false),
-        edge(0.0, TWO_TO_53, 1 << 26, 1 << 27, 1.0, false),
-        edge(0.0, TWO_TO_53, (1 << 53) + 1, 1, 1.0, true),
-        edge(0.0, TWO_TO_53, (1 << 52) + 1, 2, 1.0, true),
-        edge(0.0, 1024.0, (1 << 62) + 256, 4, 1.0, true),
-        edge(0.0, 1024.0, 1 << 32, 1 << 32, 1.0, true),
-        edge(0.0, 1.0, i64::MAX, i64::MAX, 1.0, true),
-        edge(0.0, 1024.0, -4, -256, 1.0, true),
-        edge(0.0, 1024.0, -4, 256, -1.0, true),
-        edge(1024.0, 0.0, 4, 256, 1.0, true),
-        edge(1024.0, 1024.0, 4, 256, 1.0, true),
-        edge(f64::NAN, 1024.0, 4, 256, 1.0, true),
-        edge(0.0, f64::INFINITY, 4, 256, f64::INFINITY, true),
-        edge(-f64::MAX, f64::MAX, 4, 256, f64::MAX, true),
-        edge(0.0, 0.3, 3, 1, 0.1, false),
-        edge(4e6, 4e6 + 0.1, 1, 1, 0.1, true),
-        edge(0.0, bits(5), 1, 1, bits(1), false),
-        edge(0.0, bits(6), 1, 1, bits(1), true),
-        edge(0.0, 0.0, 1, 1, bits(1), true),
-        edge(-0.0, 1024.0, 4, 256, 1.0, false),
-    ]
-}
-
 /// A pyramid of another name, which fits in the one axis and in the other is
 /// at the edge of fitting.
 fn plant_strange_span(random: &mut Random, draft: &mut Draft, axis: usize) -> bool {
-    let edge = random.pick(&span_edges());
+    let edge = span_edge(random);
     draft.set("edge", 0, [0.0, 0.0, 1024.0, 1024.0]);
     draft.matrix("edge", 0, 4, 1.0);
     if let Some(set) = draft.sets.last_mut() {
