@@ -2,6 +2,7 @@
 
 use std::collections::HashSet;
 
+use super::spans::last_size;
 use super::Random;
 use crate::make::{Draft, MatrixRow, SetRow, Span, TileRow};
 
@@ -61,20 +62,69 @@ pub fn somewhere(random: &mut Random, draft: &mut Draft, name: &[u8]) -> Span {
     }
 }
 
+/// One axis of a layer: its corners, and the pixel size of its first level.
+struct Axis {
+    low: f64,
+    high: f64,
+    pixel: f64,
+}
+
+/// Few bits each, so that every product and difference is exact.
+fn near_axis(random: &mut Random, product: i64) -> Axis {
+    let pixel = random.from_to(1, 999) as f64 * random.pick(&[1.0, 0.125, 64.0]);
+    let extent = product as f64 * pixel;
+    let low = extent * random.pick(&[0.0, -0.5, 1.0, -1.0]);
+    Axis { low, high: low + extent, pixel }
+}
+
+/// A farm's: metres in tenths, fifths or thirds on a UTM grid, or degrees in
+/// arc-seconds. A corner is off by half a gap at most, and the product, which is
+/// below half the corner, by one: so extent and product are two gaps apart at
+/// most. Half of the time the size is moved to the last that fits.
+fn far_axis(random: &mut Random, product: i64) -> Axis {
+    let northing = (4_000_000, 9_990_000);
+    let easting = (166_000, 834_000);
+    let (parts, (least, most)) = random.pick(&[
+        (10, northing),
+        (10, easting),
+        (5, northing),
+        (3, easting),
+        (3_600, (4, 84)),
+        (3_600, (4, 178)),
+    ]);
+    let in_parts = |count: i64| count as f64 / parts as f64;
+    let start = random.from_to(least * parts, most * parts);
+    let pixel = random.pick(&[1, 2, 4]);
+    let corners = (in_parts(start), in_parts(start + product * pixel));
+    let is_mirrored = random.once_in(2);
+    let (low, high) = if is_mirrored { (-corners.1, -corners.0) } else { corners };
+    let pixel = match random.below(4) {
+        0 => last_size(low, high, product as u64, true),
+        1 => last_size(low, high, product as u64, false),
+        _ => in_parts(pixel),
+    };
+    Axis { low, high, pixel }
+}
+
 fn add_layer(random: &mut Random, draft: &mut Draft, name: &str) {
     let srs_id = random.pick(&[4326, -1, 0]);
     let moment = random.pick(&MOMENTS);
     draft.content(name, "tiles", moment, Some(srs_id));
-    // Few bits each, so that every product and difference here is exact.
     let tile_size = [0; 2].map(|_| random.pick(&[1, 128, 256, 300, 512]));
     let sides = [0; 2].map(|_| random.from_to(1, 3));
-    let pixel = [0; 2].map(|_| random.from_to(1, 999) as f64 * random.pick(&[1.0, 0.125, 64.0]));
-    let extent = [0, 1].map(|axis| (sides[axis] * tile_size[axis]) as f64 * pixel[axis]);
-    let low = extent.map(|size| size * random.pick(&[0.0, -0.5, 1.0, -1.0]));
+    let is_far = random.once_in(2);
+    let [x, y] = [0, 1].map(|axis| {
+        let product = sides[axis] * tile_size[axis];
+        if is_far {
+            far_axis(random, product)
+        } else {
+            near_axis(random, product)
+        }
+    });
     let set = SetRow {
         table_name: somewhere(random, draft, name.as_bytes()),
         srs_id,
-        corners: [low[0], low[1], low[0] + extent[0], low[1] + extent[1]],
+        corners: [x.low, y.low, x.high, y.high],
     };
     draft.sets.push(set);
     let first_zoom = random.from_to(0, 3);
@@ -87,8 +137,8 @@ fn add_layer(random: &mut Random, draft: &mut Draft, name: &str) {
             matrix_height: sides[1] << level,
             tile_width: tile_size[0],
             tile_height: tile_size[1],
-            pixel_x_size: pixel[0] / scale,
-            pixel_y_size: pixel[1] / scale,
+            pixel_x_size: x.pixel / scale,
+            pixel_y_size: y.pixel / scale,
         };
         draft.matrices.push(matrix);
         add_tiles(random, draft, name, &matrix);
