@@ -1,7 +1,8 @@
-//! What the made listings reach: every code found and not found, every
-//! refusal given and not given, every kind of listing; and what the made parts
-//! reach. And how long judging takes.
+//! What the made listings reach: every code found and not found, both ways to
+//! pass 451 and 452, every refusal given and not given, every kind of listing;
+//! and what the made parts reach. And how long judging takes.
 
+mod spans;
 mod writes;
 
 use std::fmt;
@@ -12,6 +13,7 @@ use crate::generate::PartsCase;
 use crate::generate::{cut, generate, generate_parts, kind_names, questions, LIMITS};
 use crate::listing::{read, NONE};
 use crate::rules::{Finding, CODES};
+use spans::Spans;
 use writes::Writes;
 
 /// One line of the table: how many have what it tells of, and how many lack it.
@@ -44,6 +46,7 @@ impl Line {
 pub struct Table {
     listings: usize,
     codes: Vec<Line>,
+    spans: Spans,
     untestable: Vec<Line>,
     without_row: Vec<Line>,
     refusals: Vec<Line>,
@@ -91,6 +94,7 @@ impl Table {
         Table {
             listings: 0,
             codes: CODES.iter().map(|code| code_line(code.number)).collect(),
+            spans: Spans::new(),
             untestable: rarely_empty
                 .map(|code| Line::new(format!("not testable {}", code.number)))
                 .collect(),
@@ -139,6 +143,7 @@ impl Table {
         for (code, line) in rarely_empty.zip(&mut self.untestable) {
             line.count(listing.count(code.table) == 0);
         }
+        self.spans.count(listing);
     }
 
     fn count_lookup(&mut self, octets: &[u8], question: Question) {
@@ -151,7 +156,7 @@ impl Table {
     }
 
     fn lines(&self) -> impl Iterator<Item = &Line> {
-        let counted = self.codes.iter().chain(&self.without_row);
+        let counted = self.codes.iter().chain(self.spans.lines()).chain(&self.without_row);
         let counted = counted.chain(&self.untestable).chain(&self.refusals);
         counted.chain([&self.lookups]).chain(&self.kinds).chain(self.writes.lines())
     }
