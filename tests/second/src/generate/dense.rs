@@ -2,24 +2,29 @@
 //! a few rows each, so that rare meetings come often.
 
 use super::plant::{EXTENSION_NAMES, SCOPES};
-use super::spans::{span_edge, stepped, SpanEdge};
+use super::spans::{span_edge, stepped, wild_axis};
 use super::Random;
 use crate::make::{Draft, MatrixRow, NULL};
+use crate::rules::Axis;
 
 const MOMENT: &str = "2024-02-29T00:00:00.000Z";
 
-/// One set row and one matrix row a name, each axis at the edge of fitting.
+/// One set row and one matrix row a name, each axis at or around the edge of
+/// fitting.
 pub fn spans(random: &mut Random) -> Draft {
     let mut draft = Draft::default();
     for number in 0..4 + random.below(30) {
-        let edges = [0; 2].map(|_| span_edge(random));
-        add_span(&mut draft, &format!("s{number}"), edges);
+        let axes = [0; 2].map(|_| match random.once_in(2) {
+            true => wild_axis(random),
+            false => span_edge(random).axis,
+        });
+        add_span(&mut draft, &format!("s{number}"), axes);
     }
     draft
 }
 
 /// One set row and one matrix row with these axes.
-pub fn add_span(draft: &mut Draft, name: &str, [x, y]: [SpanEdge; 2]) {
+pub fn add_span(draft: &mut Draft, name: &str, [x, y]: [Axis; 2]) {
     draft.set(name, 0, [x.low, y.low, x.high, y.high]);
     let table_name = draft.text(name);
     draft.matrices.push(MatrixRow {
@@ -29,8 +34,8 @@ pub fn add_span(draft: &mut Draft, name: &str, [x, y]: [SpanEdge; 2]) {
         matrix_height: y.tiles,
         tile_width: x.pixels,
         tile_height: y.pixels,
-        pixel_x_size: x.size,
-        pixel_y_size: y.size,
+        pixel_x_size: x.pixel_size,
+        pixel_y_size: y.pixel_size,
     });
 }
 

@@ -21,6 +21,8 @@ pub use limits::LIMITS;
 pub use parts::{cut, generate_parts, parts_kind_names, PartsCase};
 pub use questions::{questions, Questions};
 pub use random::Random;
+#[cfg(test)]
+pub(crate) use spans::wild_axis;
 
 use crate::make::Draft;
 
@@ -112,7 +114,7 @@ pub fn one_span(seed: u64) -> (Vec<u8>, [bool; 2]) {
     let mut random = Random::new(seed);
     let edges = [0; 2].map(|_| spans::span_edge(&mut random));
     let mut draft = Draft::default();
-    dense::add_span(&mut draft, "s", edges);
+    dense::add_span(&mut draft, "s", edges.map(|edge| edge.axis));
     (draft.listing(), edges.map(|edge| edge.shows))
 }
 

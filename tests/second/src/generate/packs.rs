@@ -63,25 +63,25 @@ pub fn somewhere(random: &mut Random, draft: &mut Draft, name: &[u8]) -> Span {
 }
 
 /// One axis of a layer: its corners, and the pixel size of its first level.
-struct Axis {
+struct LayerAxis {
     low: f64,
     high: f64,
     pixel: f64,
 }
 
 /// Few bits each, so that every product and difference is exact.
-fn near_axis(random: &mut Random, product: i64) -> Axis {
+fn near_axis(random: &mut Random, product: i64) -> LayerAxis {
     let pixel = random.from_to(1, 999) as f64 * random.pick(&[1.0, 0.125, 64.0]);
     let extent = product as f64 * pixel;
     let low = extent * random.pick(&[0.0, -0.5, 1.0, -1.0]);
-    Axis { low, high: low + extent, pixel }
+    LayerAxis { low, high: low + extent, pixel }
 }
 
 /// A farm's: metres in tenths, fifths or thirds on a UTM grid, or degrees in
 /// arc-seconds. A corner is off by half a gap at most, and the product, which is
 /// below half the corner, by one: so extent and product are two gaps apart at
 /// most. Half of the time the size is moved to the last that fits.
-fn far_axis(random: &mut Random, product: i64) -> Axis {
+fn far_axis(random: &mut Random, product: i64) -> LayerAxis {
     let northing = (4_000_000, 9_990_000);
     let easting = (166_000, 834_000);
     let (parts, (least, most)) = random.pick(&[
@@ -103,7 +103,7 @@ fn far_axis(random: &mut Random, product: i64) -> Axis {
         1 => last_size(low, high, product as u64, false),
         _ => in_parts(pixel),
     };
-    Axis { low, high, pixel }
+    LayerAxis { low, high, pixel }
 }
 
 fn add_layer(random: &mut Random, draft: &mut Draft, name: &str) {

@@ -1,28 +1,25 @@
 //! Extents and pixel sizes at the edge of fitting, for 451 and 452: edges worked
-//! out by hand, and edges far from the origin that are known by the way they are
-//! made.
+//! out by hand, edges far from the origin that are known by the way they are made,
+//! and axes around such edges of which nothing is known.
 
 use super::Random;
+use crate::rules::Axis;
 
 /// The double so many steps away from a positive one.
 pub fn stepped(size: f64, steps: i64) -> f64 {
     f64::from_bits(size.to_bits().wrapping_add_signed(steps))
 }
 
-/// One axis of a pyramid at the edge of fitting.
+/// An axis at the edge of fitting.
 #[derive(Clone, Copy)]
 pub struct SpanEdge {
-    pub low: f64,
-    pub high: f64,
-    pub tiles: i64,
-    pub pixels: i64,
-    pub size: f64,
+    pub axis: Axis,
     /// Does it break 451 (or 452)?
     pub shows: bool,
 }
 
 const fn edge(low: f64, high: f64, tiles: i64, pixels: i64, size: f64, shows: bool) -> SpanEdge {
-    SpanEdge { low, high, tiles, pixels, size, shows }
+    SpanEdge { axis: Axis { low, high, tiles, pixels, pixel_size: size }, shows }
 }
 
 /// An axis at the edge of fitting, of any kind.
@@ -205,4 +202,34 @@ fn divided(value: f64, by: u64, is_up: bool) -> f64 {
     let is_left = (digits << places) % u128::from(by) != 0;
     let last = quotient(places) as u64 + u64::from(is_up && is_left);
     f64::from_bits(((exponent - places - 1) << 52) + last)
+}
+
+/// Corners of any size, often close to each other, and a product some gaps from
+/// the extent. The machine's arithmetic does for it, rounded as it happens to be.
+pub fn wild_axis(random: &mut Random) -> Axis {
+    let exponent = match random.below(3) {
+        0 => random.pick(&[0, 0, 1, 2, 53, 54, 1_023, 2_044, 2_045, 2_046]),
+        1 => random.below(2_047) as u64,
+        _ => 1_023 + random.below(54) as u64,
+    };
+    let larger = f64::from_bits((exponent << 52) + (random.word() >> random.from_to(12, 63)));
+    let gap = gap_above(larger);
+    let other = match random.below(5) {
+        0 => larger - random.from_to(0, 40) as f64 * gap / 2.0,
+        1 => larger - (random.word() >> random.from_to(12, 63)) as f64 * gap,
+        2 => larger * random.pick(&[0.0, -0.0, 0.5, -0.5, -1.0, 0.25, 0.75]),
+        3 => stepped(larger, -random.from_to(0, 20)),
+        _ => larger / (1_u64 << random.below(64)) as f64,
+    };
+    let is_mirrored = random.once_in(2);
+    let (low, high) = if is_mirrored { (-larger, -other) } else { (other, larger) };
+    let gaps = random.from_to(-6, 6) as f64 / random.pick(&[1.0, 1.0, 2.0, 64.0]);
+    let tiles = match random.below(3) {
+        0 => random.pick(&[1, 2, 3, 7, 256, (1 << 53) - 1, 1 << 53]),
+        1 => 1,
+        _ => 1 + (random.word() >> random.from_to(11, 63)) as i64,
+    };
+    let size = ((high - low) + gaps * gap) / tiles as f64;
+    let pixel_size = stepped(size, random.from_to(-9, 9));
+    Axis { low, high, tiles, pixels: 1, pixel_size }
 }

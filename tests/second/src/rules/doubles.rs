@@ -72,3 +72,35 @@ impl Axis {
         exact::difference(extent, measured).filter(|_| are_sizes)
     }
 }
+
+#[cfg(test)]
+mod tests {
+    use super::*;
+    use crate::generate::{wild_axis, Random};
+
+    /// The second way by the machine's arithmetic, which rounds each step once.
+    fn is_within_gaps_by_machine(axis: &Axis, count: u64) -> bool {
+        let extent = axis.high - axis.low;
+        let measured = count as f64 * axis.pixel_size;
+        let larger = axis.low.abs().max(axis.high.abs());
+        let gap = f64::from_bits(larger.to_bits() + 1) - larger;
+        let are_finite = extent.is_finite() && measured.is_finite() && gap.is_finite();
+        are_finite && extent > 0.0 && measured > 0.0 && (extent - measured).abs() <= 4.0 * gap
+    }
+
+    #[test]
+    fn the_second_way_is_the_machines_on_wild_axes() {
+        let mut random = Random::new(5);
+        let mut counts = [0; 2];
+        for _ in 0..500_000 {
+            let axis = wild_axis(&mut random);
+            let Some(count) = axis.product() else {
+                continue;
+            };
+            let is_within = axis.is_within_gaps(count);
+            assert_eq!(is_within, is_within_gaps_by_machine(&axis, count), "{axis:?}");
+            counts[usize::from(is_within)] += 1;
+        }
+        assert!(counts.iter().all(|&count| count > 100_000), "{counts:?}");
+    }
+}

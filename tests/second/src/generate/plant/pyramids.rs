@@ -2,7 +2,7 @@
 //! and 531.
 
 use super::{any_row, ghost, is_same};
-use crate::generate::spans::{edge_size, span_edge, stepped};
+use crate::generate::spans::{edge_size, span_edge, stepped, SpanEdge};
 use crate::generate::Random;
 use crate::make::{Draft, MatrixRow, SetRow, TileRow, NULL};
 
@@ -149,7 +149,7 @@ fn plant_second_set(random: &mut Random, draft: &mut Draft, row: usize, axis: us
 /// A pyramid of another name, which fits in the one axis and in the other is
 /// at the edge of fitting.
 fn plant_strange_span(random: &mut Random, draft: &mut Draft, axis: usize) -> bool {
-    let edge = span_edge(random);
+    let SpanEdge { axis: edge, shows } = span_edge(random);
     draft.set("edge", 0, [0.0, 0.0, 1024.0, 1024.0]);
     draft.matrix("edge", 0, 4, 1.0);
     if let Some(set) = draft.sets.last_mut() {
@@ -157,9 +157,9 @@ fn plant_strange_span(random: &mut Random, draft: &mut Draft, axis: usize) -> bo
     }
     if let Some(matrix) = draft.matrices.last_mut() {
         set_tiles_and_pixels(matrix, axis, edge.tiles, edge.pixels);
-        *pixel_of(axis, matrix) = edge.size;
+        *pixel_of(axis, matrix) = edge.pixel_size;
     }
-    edge.shows
+    shows
 }
 
 /// A size of the highest level against the one below it.
