@@ -2,9 +2,10 @@
 //! machine's arithmetic on doubles: in whole numbers, rounded once at the end.
 //!
 //! A finite double is a whole number of at most 53 bits times a power of two. A
-//! difference or a product is put together from these numbers exactly, and then
-//! rounded: to the nearest double, and from the middle between two of them to
-//! the one whose last digit is even. Nothing is answered that is not finite.
+//! difference or a product is put together from these numbers, with all digits
+//! that can decide how it rounds, and then rounded: to the nearest double, and
+//! from the middle between two of them to the one whose last digit is even.
+//! Nothing is answered that is not finite.
 
 const FRACTION_BITS: u32 = 52;
 const FRACTION: u64 = (1 << FRACTION_BITS) - 1;
@@ -66,9 +67,10 @@ impl Exact {
         }
     }
 
-    /// The sum of two doubles, the second with no higher power. So far down that
-    /// it does not fit beside the first, it is below a thousandth of the first
-    /// one's last digit: then the least digit that fits rounds as it does.
+    /// The sum of two doubles, the second with no higher power. It is exact while
+    /// both fit side by side. Further down, the second is less than a thousandth
+    /// of the first one's last digit, and the least digit that fits stands in for
+    /// it: the sum rounds alike.
     fn plus_lower(self, lower: Exact) -> Exact {
         const ROOM: i32 = 64;
         let apart = self.power - lower.power;

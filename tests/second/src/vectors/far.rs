@@ -20,6 +20,7 @@ const FARTHER: f64 = 4_503_599_627_370_496.0;
 type Want = [&'static str; 2];
 const FITS: Want = ["", ""];
 const MISSES: Want = ["451 0 -", "452 0 -"];
+const BOTH: &str = "451 0 -, 452 0 -";
 /// Beside the finding on a pixel size that is none.
 const MISSES_NO_SIZE: Want = ["451 0 -, 511 0 -", "452 0 -, 521 0 -"];
 
@@ -121,8 +122,6 @@ fn check_axes_apart(tally: &mut Tally) {
         tally.judged("2026-02, the corners of one axis", &draft.listing(), want);
     }
 }
-
-const BOTH: &str = "451 0 -, 452 0 -";
 
 /// 2.3 and 2.4: upwards, from the larger corner, whatever its sign. Just below
 /// 2^22 the gap is 2^-31, at 2^22 itself 2^-30.
@@ -393,8 +392,8 @@ fn check_widths(tally: &mut Tally) {
     }
 }
 
-/// What the request is about. Stored, a corner is off by half a gap at most, so
-/// an extent by one; the product is off by far less. Ten times that is too much.
+/// What the request is about. Stored, a corner is off by half a gap at most, and
+/// so the extent by one; the product is off by far less.
 fn check_farms(tally: &mut Tally) {
     // Gaps of 2^-31 at 4,000,000 and of 2^-30 at 5,200,000, of 2^-34 at 500,000.
     let cases = [
@@ -410,7 +409,7 @@ fn check_farms(tally: &mut Tally) {
         // 46 and 47 degrees, gaps of 2^-47, with 3,600 pixels of an arc-second.
         ((46.1, 47.1, 10, 360, 1.0 / 3600.0), FITS),
         ((-47.1, -46.1, 10, 360, 1.0 / 3600.0), FITS),
-        // A second arc-second's worth in every million.
+        // One part in a million more.
         ((46.1, 47.1, 10, 360, 1.000_001 / 3600.0), MISSES),
     ];
     for (axis, want) in cases {
