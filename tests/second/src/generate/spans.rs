@@ -77,7 +77,9 @@ fn gap_edges() -> [SpanEdge; 24] {
     let four = 1.0 + 1.0 / f64::from(1 << 19) / f64::from(1 << 19);
     let half = 1.0 + (four - 1.0) / 2.0;
     let below = stepped(FAR, -1);
-    let (tiny, step) = (f64::from_bits(1), 1.0 / FARTHER);
+    // 2^-43: beside 1024 it is half a gap, which is lost.
+    let lost = 512.0 / FARTHER;
+    let tiny = f64::from_bits(1);
     [
         edge(0.0, 1024.0, 4, 256, stepped(1.0, -5), false),
         edge(0.0, 1024.0, 4, 256, stepped(1.0, -8), false),
@@ -93,7 +95,7 @@ fn gap_edges() -> [SpanEdge; 24] {
         edge(FAR, FAR + 1024.0, -4, -256, 1.0, true),
         edge(FAR, FAR + 43.0, 43, 1, stepped(1.0, 390_168), false),
         edge(FAR, FAR + 43.0, 43, 1, stepped(1.0, 390_169), true),
-        edge(-step / 256.0, 1024.0, 4, 256, stepped(1.0, -8), false),
+        edge(-lost, 1024.0, 4, 256, stepped(1.0, -8), false),
         edge(4e6, 4e6 + 0.1, 1, 1, 0.1, false),
         edge(FARTHER, FARTHER + 5.0, 1, 1, stepped(1.0, -4), false),
         edge(FARTHER, FARTHER + 5.0, 1, 1, stepped(1.0, -5), true),
