@@ -7,7 +7,7 @@ use native.Mathlib.Nat.{mul-one, mul-assoc, mul-comm, mul-right-comm, mul-le-mul
 use native.Mathlib.Omega.{arith}
 use borrow.Author.Tests.{le-ltb, lt-leb, ne-eqb, ltb-true, ltb-false, leb-true, leb-false}
 use lib.Dec.{leb, ltb, eqb}
-use lib.IntN.{pos}
+use lib.IntN.{ℤ, pos}
 use lib.Pow.{pow-pos, pow-lt, shl-lt}
 use lib.Ieee.{Float, nan, inf, fin, binary64, up, down, odd, lt, eq, le, sum, sub, mul, round, ofFields, ofBits}
 use lib.Ieee.Bits.{is-true}
@@ -90,29 +90,45 @@ units-more a (suc b) l = elim (eq-or-lt-of-le (le-of-suc-le-suc l)) [ inl e ↦ 
 
 -- ---- doubles are ordered as their patterns are
 
--- two values over one denominator, brought to another
+-- a value over one denominator, brought to another
 scaled : (a k u b c : ℕ) → a * c ≡ u * b → a * k * c ≡ u * (b * k)
 scaled a k u b c h = mul-right-comm a k c ∙ ap (λ (z : ℕ). z * k) h ∙ mul-assoc u b k
-
-scaled-back : (a k u b c : ℕ) → a * c ≡ u * b → a * k * c ≡ u * (k * b)
-scaled-back a k u b c h = scaled a k u b c h ∙ ap (λ (z : ℕ). u * z) (mul-comm b k)
 
 sub-mul : (a b k : ℕ) → (a - b) * k ≡ a * k - b * k
 sub-mul a b k = mul-comm (a - b) k ∙ mul-sub k a b ∙ rw (mul-comm k a, mul-comm k b)
 
+-- a double with such a value is finite and not negative
+valued : (u c : ℕ) (P : Float → Type 0) → ((m : ℕ) (e : ℤ) → m * up e * c ≡ u * down e → P (fin false m e)) → (x : Float) → HasValue x false u c → P x
+valued u c P f nan h = absurd h
+valued u c P f (inf s) h = absurd h
+valued u c P f (fin true m e) h = absurd (true≢false (h .0))
+valued u c P f (fin false m e) h = f m e (h .1)
+
+-- two of them, of values over the denominator c
+module _ (u v c : ℕ) (m : ℕ) (e : ℤ) (n : ℕ) (d : ℤ) (h : m * up e * c ≡ u * down e) (k : n * up d * c ≡ v * down d) where
+  high : m * up e * down d * c ≡ u * (down e * down d)
+  high = scaled (m * up e) (down d) u (down e) c h
+
+  low : n * up d * down e * c ≡ v * (down e * down d)
+  low = scaled (n * up d) (down e) v (down d) c k ∙ ap (λ (z : ℕ). v * z) (mul-comm (down d) (down e))
+
+  fin-not-above : v < u → le (fin false m e) (fin false n d) ≡ false
+  unfolding le lt eq
+  fin-not-above l =
+      let below : n * up d * down e < m * up e * down d = lt-of-mul-lt-mul-right c (subst₂ _<_ (sym low) (sym high) (mul-lt-mul-of-pos-right l (mul-pos (down-pos e) (down-pos d)))) in
+      rw (le-ltb (m * up e * down d) (n * up d * down e) (le-of-lt below), ne-eqb (m * up e * down d) (n * up d * down e) (omega (arith, below)))
+
+  fin-sub : 0 < c → v ≤ u → sub binary64 (fin false m e) (fin false n d) ≡ round binary64 false (u - v) c
+  unfolding sub sum
+  fin-sub p l =
+      let no-more : n * up d * down e ≤ m * up e * down d = le-of-mul-le-mul-right (subst₂ _≤_ (sym low) (sym high) (mul-le-mul-right (down e * down d) l)) p in
+      let same : (m * up e * down d - n * up d * down e) * c ≡ (u - v) * (down e * down d) = sub-mul (m * up e * down d) (n * up d * down e) c ∙ rw (high, low) (sym (sub-mul u v (down e * down d))) in
+      rw (le-ltb (m * up e * down d) (n * up d * down e) no-more)
+      (round-same binary64 false (m * up e * down d - n * up d * down e) (down e * down d) (u - v) c (mul-pos (down-pos e) (down-pos d)) p same)
+
 not-above : (x y : Float) (u v c : ℕ) → HasValue x false u c → HasValue y false v c → v < u → le x y ≡ false
-unfolding le lt eq
-not-above nan y u v c h k l = absurd h
-not-above (inf s) y u v c h k l = absurd h
-not-above (fin true m e) y u v c h k l = absurd (true≢false (h .0))
-not-above (fin false m e) nan u v c h k l = absurd k
-not-above (fin false m e) (inf t) u v c h k l = absurd k
-not-above (fin false m e) (fin true n d) u v c h k l = absurd (true≢false (k .0))
-not-above (fin false m e) (fin false n d) u v c h k l =
-    rw (le-ltb (m * up e * down d) (n * up d * down e) (le-of-lt below), ne-eqb (m * up e * down d) (n * up d * down e) (omega (arith, below)))
-  where
-    below : n * up d * down e < m * up e * down d
-    below = lt-of-mul-lt-mul-right c (subst₂ _<_ (sym (scaled-back (n * up d) (down e) v (down d) c (k .1))) (sym (scaled (m * up e) (down d) u (down e) c (h .1))) (mul-lt-mul-of-pos-right l (mul-pos (down-pos e) (down-pos d))))
+not-above x y u v c h k l =
+    valued u c (λ a. le a y ≡ false) (λ m e p. valued v c (λ b. le (fin false m e) b ≡ false) (λ n d q. fin-not-above u v c m e n d p q l) y k) x h
 
 pub pattern-order : (a b : ℕ) → a < endless → b < endless → le (ofBits binary64 a) (ofBits binary64 b) ≡ leb a b
 pattern-order a b p q = by (leb a b) refl
@@ -126,29 +142,8 @@ pattern-order a b p q = by (leb a b) refl
 
 -- ---- a gap is exact, and so is four times a gap
 sub-at : (x y : Float) (u v c : ℕ) → 0 < c → HasValue x false u c → HasValue y false v c → v ≤ u → sub binary64 x y ≡ round binary64 false (u - v) c
-unfolding sub sum
-sub-at nan y u v c p h k l = absurd h
-sub-at (inf s) y u v c p h k l = absurd h
-sub-at (fin true m e) y u v c p h k l = absurd (true≢false (h .0))
-sub-at (fin false m e) nan u v c p h k l = absurd k
-sub-at (fin false m e) (inf t) u v c p h k l = absurd k
-sub-at (fin false m e) (fin true n d) u v c p h k l = absurd (true≢false (k .0))
-sub-at (fin false m e) (fin false n d) u v c p h k l =
-    ap (λ (b : Bool). cond b (round binary64 true (n * up d * down e - m * up e * down d) (down e * down d)) (round binary64 false (m * up e * down d - n * up d * down e) (down e * down d)))
-    (le-ltb (m * up e * down d) (n * up d * down e) no-more)
-    ∙ round-same binary64 false (m * up e * down d - n * up d * down e) (down e * down d) (u - v) c (mul-pos (down-pos e) (down-pos d)) p same
-  where
-    high : m * up e * down d * c ≡ u * (down e * down d)
-    high = scaled (m * up e) (down d) u (down e) c (h .1)
-
-    low : n * up d * down e * c ≡ v * (down e * down d)
-    low = scaled-back (n * up d) (down e) v (down d) c (k .1)
-
-    no-more : n * up d * down e ≤ m * up e * down d
-    no-more = le-of-mul-le-mul-right (subst₂ _≤_ (sym low) (sym high) (mul-le-mul-right (down e * down d) l)) p
-
-    same : (m * up e * down d - n * up d * down e) * c ≡ (u - v) * (down e * down d)
-    same = sub-mul (m * up e * down d) (n * up d * down e) c ∙ rw (high, low) (sym (sub-mul u v (down e * down d)))
+sub-at x y u v c p h k l =
+    valued u c (λ a. sub binary64 a y ≡ round binary64 false (u - v) c) (λ m e g. valued v c (λ b. sub binary64 (fin false m e) b ≡ round binary64 false (u - v) c) (λ n d q. fin-sub u v c m e n d g q p l) y k) x h
 
 -- up to four of a power of two keep their value
 power-exact : (q x : ℕ) → q ≤ 4 → x < 2047 → HasValue (round binary64 false (q * stepOf x) (2 ^ 1074)) false (q * stepOf x) (2 ^ 1074)

@@ -14,5 +14,9 @@ gap-of-spec =
     (λ c κs. search needs)
     (λ c κs. search needs)
     (λ c κs. search needs)
-    (λ c. rw (← c .before .before .before .magnitude-of .ensures .0, ← c .before .before .magnitude-of2 .ensures .0, max-eq-right {n = c .before .before .before .magnitude-of .result} {m = c .before .before .magnitude-of2 .result} (omega arith)) (c .gap-above .ensures))
-    (λ c. rw (← c .before .before .before .magnitude-of .ensures .0, ← c .before .before .magnitude-of2 .ensures .0, max-eq-left {n = c .before .before .before .magnitude-of .result} {m = c .before .before .magnitude-of2 .result} (omega arith)) (c .gap-above2 .ensures)))
+    (λ c. let a = c .before .before .before .magnitude-of in
+    let b = c .before .before .magnitude-of2 in
+    rw (← a .ensures .0, ← b .ensures .0, max-eq-right {n = a .result} {m = b .result} (omega arith)) (c .gap-above .ensures))
+    (λ c. let a = c .before .before .before .magnitude-of in
+    let b = c .before .before .magnitude-of2 in
+    rw (← a .ensures .0, ← b .ensures .0, max-eq-left {n = a .result} {m = b .result} (omega arith)) (c .gap-above2 .ensures)))
