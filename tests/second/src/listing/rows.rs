@@ -78,6 +78,29 @@ fn text_or_null<'a>(names: &'a [u8], row: &[u8], at: usize) -> Option<&'a [u8]> 
     (!is_null).then(|| text(names, row, at))
 }
 
+/// The tile rows. The other tables' are read by closures; these are read in the
+/// lookup that bench/run times, and whether a closure is inlined there hangs on
+/// code that has nothing to do with it.
+struct Tiles<'a> {
+    rows: std::slice::ChunksExact<'a, u8>,
+    names: &'a [u8],
+}
+
+impl<'a> Iterator for Tiles<'a> {
+    type Item = Tile<'a>;
+
+    #[inline(always)]
+    fn next(&mut self) -> Option<Tile<'a>> {
+        let row = self.rows.next()?;
+        Some(Tile {
+            table_name: text(self.names, row, 0),
+            zoom: i64_at(row, 8),
+            column: i64_at(row, 16),
+            row: i64_at(row, 24),
+        })
+    }
+}
+
 impl<'a> Listing<'a> {
     pub fn references(&self) -> impl Iterator<Item = Reference<'a>> + 'a {
         let names = self.names();
@@ -128,13 +151,7 @@ impl<'a> Listing<'a> {
     }
 
     pub fn tiles(&self) -> impl Iterator<Item = Tile<'a>> + 'a {
-        let names = self.names();
-        self.row_octets(TILES).map(move |row| Tile {
-            table_name: text(names, row, 0),
-            zoom: i64_at(row, 8),
-            column: i64_at(row, 16),
-            row: i64_at(row, 24),
-        })
+        Tiles { rows: self.row_octets(TILES), names: self.names() }
     }
 
     pub fn extensions(&self) -> impl Iterator<Item = Extension<'a>> + 'a {
