@@ -53,12 +53,12 @@ withinFour gap a b = positive a && (positive b && (positive gap && le (differenc
 unfoldable pub sameLength : Float → Float → Float → Float → Bool
 sameLength low high extent product = near extent product || withinFour (gapOf low high) extent product
 
--- "width and tile width are positive, their product is at most 2^53, and max_x - min_x, rounded once," is alike "that product times pixel_x_size, rounded once".
+-- "width and tile width are positive, their product is at most 2^53, and max_x - min_x, rounded once," passes a test with "that product times pixel_x_size, rounded once".
 -- A number that is not positive has the natural number 0; the product is a double exactly
 unfoldable pub measuresBy : (Float → Float → Bool) → Float → Float → ℤ → ℤ → Float → Bool
-measuresBy alike low high count size pixel =
+measuresBy test low high count size pixel =
     ltb 0 (natural count) && (ltb 0 (natural size) && (leb (natural count * natural size) (2 ^ 53)
-    && alike (sub binary64 high low) (mul binary64 (ofInt binary64 (pos (natural count * natural size))) pixel)))
+    && test (sub binary64 high low) (mul binary64 (ofInt binary64 (pos (natural count * natural size))) pixel)))
 
 -- "the width conditions stay": they stand before both ways
 unfoldable pub measures : Float → Float → ℤ → ℤ → Float → Bool
