@@ -8,10 +8,10 @@ use borrow.Author.Needs.{needs}
 use borrow.Author.Tests.{lt-ltb, le-leb, lt-leb}
 use lib.Dec.{T}
 use lib.IntN.{ℤ, pos}
-use lib.Ieee.{Float, nan, inf, fin, binary64, lt, ne, toBits, isNan, sub, mul, ofInt}
+use lib.Ieee.{Float, nan, inf, fin, binary64, lt, le, ne, toBits, isNan, sub, mul, ofInt}
 use lib.Ieee.Compare.{differs-from-itself, nan-differs}
 use Rattle.octets.specs.Numbers.{natural}
-use Rattle.doubles.specs.Doubles.{positive, magnitude, sameLength, measuresBy, measures}
+use Rattle.doubles.specs.Doubles.{positive, magnitude, difference, withinFour, sameLength, measuresBy, measures}
 
 -- what tests as a NaN is the one NaN
 pub is-nan : (x : Float) → isNan x ≡ true → nan ≡ x
@@ -37,6 +37,12 @@ unfolding isNan
 same-no-nan nan e = absurd (subst T (sym nan-differs ∙ e) tt)
 same-no-nan (inf s) e = tt
 same-no-nan (fin s m k) e = tt
+
+-- `withinFour` where all three are finite and above 0: what is left is the comparison
+pub within-asked : (gap a b : Float) → positive a ≡ true → positive b ≡ true → positive gap ≡ true
+    → (t : Bool) → t ≡ le (difference a b) (mul binary64 (fin false 1 (pos 2)) gap) → t ≡ withinFour gap a b
+unfolding withinFour
+within-asked gap a b p q r t k = k ∙ rw (p, q, r)
 
 -- the bound on a product, by a division
 pub bounded : (n m : ℕ) → (m ≡ 0 → ⊥) → n ≤ 2 ^ 53 / m → n * m ≤ 2 ^ 53
