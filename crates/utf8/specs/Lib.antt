@@ -1,0 +1,9 @@
+pub mod Utf8
+pub mod Utf8Worked
+pub mod CharacterLaws
+pub mod WellFormedLaws
+pub mod CoverLaws
+pub mod PartLaws
+pub mod StepLaws
+pub mod PlainLaws
+pub mod MarkLaws

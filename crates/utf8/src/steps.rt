@@ -1,0 +1,103 @@
+// Steps through octets: a character, or some ASCII octets at once.
+ghost use mathlib.Core.Path.{_≡_};
+ghost use mathlib.Core.Bool.{true};
+ghost use Prim.Native.Nat.{_+_, _/_, _<_, _≤_};
+ghost use lib.ListN.{length, drop};
+ghost use Rattle.utf8.specs.Utf8.{size, wellFormed};
+ghost use Rattle.utf8.specs.StepLaws.{Step, Ascii, Walking};
+ghost use Rattle.utf8.specs.PlainLaws.{Plain};
+use crate::characters::size_at;
+
+fn top(x: u8) -> u32
+    ensures { λ r. ⌜ (r ≡ x / 128) × (r < 2) ⌝ }
+{
+    (x / 128) as u32
+}
+
+// Whether eight octets are ASCII.
+fn is_ascii(s: &[u8], p: usize) -> bool
+    requires { ⌜ p + 8 ≤ length (now s) ⌝ }
+    ensures { λ r. ⌜ (r ≡ true → Ascii (now (s .entry)) p 8) ⌝ }
+{
+    let high = top(s[p])
+        + top(s[p + 1])
+        + top(s[p + 2])
+        + top(s[p + 3])
+        + top(s[p + 4])
+        + top(s[p + 5])
+        + top(s[p + 6])
+        + top(s[p + 7]);
+    if high == 0 {
+        return true;
+    }
+    false
+}
+
+// Eight ASCII octets at a place, or one, or none.
+fn plain_step(s: &[u8], p: usize) -> usize
+    requires { ⌜ p < length (now s) ⌝ }
+    ensures { λ r. ⌜ Ascii (now (s .entry)) p r × (p + r ≤ length (now (s .entry))) × (r ≤ 8) ⌝ }
+{
+    if 127 < s[p] {
+        return 0;
+    }
+    if 8 <= s.len() - p {
+        if is_ascii(s, p) {
+            return 8;
+        }
+    }
+    1
+}
+
+// Some ASCII octets, or the octets of the character at a place, or 0.
+fn step(s: &[u8], p: usize) -> usize
+    requires { ⌜ p < length (now s) ⌝ }
+    ensures { λ r. ⌜ Step (now (s .entry)) p r ⌝ }
+{
+    let k = plain_step(s, p);
+    if 0 < k {
+        return k;
+    }
+    size_at(s, p)
+}
+
+// The place that whole characters lead to: the first at or past another, or one at which none stands.
+pub fn walk(s: &[u8], from: usize, to: usize) -> usize
+    requires { ⌜ (from ≤ length (now s)) × (to ≤ length (now s)) ⌝ }
+    ensures { λ r. ⌜ Walking (now (s .entry)) from r × (r < to → size (drop r (now (s .entry))) ≡ 0) ⌝ }
+{
+    let mut p = from;
+    while p < to {
+        let k = step(s, p);
+        if k == 0 {
+            return p;
+        }
+        p += k;
+    }
+    p
+}
+
+// Whether a text is well-formed.
+pub fn is_well_formed(s: &[u8]) -> bool
+    ensures { λ r. ⌜ r ≡ wellFormed (now (s .entry)) ⌝ }
+{
+    walk(s, 0, s.len()) == s.len()
+}
+
+// How many octets are ASCII before one is not; those past the most that table 7 may have are not counted.
+pub fn plain_end(s: &[u8]) -> usize
+    ensures { λ r. ⌜ Plain (now (s .entry)) r ⌝ }
+{
+    let mut n = 0;
+    while n < s.len() {
+        if 1048576 < n {
+            return n;
+        }
+        let k = plain_step(s, n);
+        if k == 0 {
+            return n;
+        }
+        n += k;
+    }
+    n
+}
