@@ -4,7 +4,6 @@ use mathlib.Core.Path.{_≡_, refl, sym, ap, _∙_, subst}
 use mathlib.Core.Bool.{Bool, true, false, cond, _&&_, and-false, false≢true}
 use mathlib.Core.List.{List}
 use mathlib.Core.Logic.{_⊎_, inl, inr, _↔_, ⊎-elim}
-use native.Mathlib.Omega.{arith}
 use borrow.Author.Tests.{le-ltb, ltb-false}
 use lib.Dec.{ltb}
 use lib.IntN.{ℤ}
@@ -12,7 +11,7 @@ use lib.ListN.{getD}
 use Rattle.octets.specs.SearchLaws.{first-lowest}
 use Rattle.spelling.specs.Words.{tiles}
 use Rattle.listing.specs.Refusals.{outcome, numberOf, isAccepted}
-use Rattle.listing.specs.RefusalLaws.{accepted-is}
+use Rattle.listing.specs.RefusalLaws.{readersOwn, accepted-is}
 use Rattle.listing.specs.declared.Outcome.{Outcome}
 use Rattle.listing.specs.declared.Outcome.the-variants as reading
 use Rattle.pack.specs.Rows.{Rows, Content, Tile}
@@ -25,7 +24,7 @@ use Rattle.findings.specs.Answers.{reported, canLook, lookedUp, locatedR
 use Rattle.findings.specs.Words.{locatedWords}
 use Rattle.findings.specs.LookupLaws.{Undoubled, located-at, lookup-only}
 use Rattle.findings.specs.ReportedLaws.{reported-judged}
-use Rattle.findings.specs.RefusedLaws.{number-most}
+use Rattle.findings.specs.RefusedLaws.{number-other}
 use Rattle.findings.specs.declared.Located.{Located}
 use Rattle.findings.specs.declared.Located.the-variants.{At, Nowhere, Refused}
 
@@ -115,17 +114,17 @@ module _ (s : List ℕ) (k : ℕ) (z c r : ℤ) where
       (λ a h e. inl (a, h, ap number e))
       (λ a h e. absurd (false≢true (sym (never-refused ts (cs .row k .name) z c r) ∙ ap isRefused e)))
 
-  -- 10: "lookup on a contents row that isn't there or whose data_type is not tiles; checked after 8"
+  -- 10: "lookup on a contents row that isn't there or whose data_type is not tiles; checked after 8", and since 2026-03 after 13
   pub lookup-ten : (lookupOf s k z c r ≡ Refused 10 0 0) ↔ ((isAccepted (outcome s) ≡ true) × ((cs .count ≤ k) ⊎ (ofType tiles (cs .row k) ≡ false)))
   lookup-ten = (
-    λ e. ⊎-elim (λ h. (h .0, can-look cs k .0 (h .1))) (λ o. absurd (omega (arith, ap numberOf o, number-most s))) (lookup-refused 10 0 0 e),
+    λ e. ⊎-elim (λ h. (h .0, can-look cs k .0 (h .1))) (λ o. absurd (number-other s 10 refl (ap numberOf o))) (lookup-refused 10 0 0 e),
     λ q.
         lookup-accepted (q .0) ∙ rw (can-look cs k .1 (q .1)),
   )
 
-  -- 1 to 8: exactly where the listing is refused so, with that place
-  pub lookup-reader : (n t q : ℕ) → n ≤ 8 → (lookupOf s k z c r ≡ Refused n t q) ↔ (outcome s ≡ reading.Refused n t q)
-  lookup-reader n t q l = (λ e. ⊎-elim (λ h. absurd (omega (arith, h .2))) (λ o. o) (lookup-refused n t q e), lookup-turned n t q)
+  -- 1 to 8 and 13: exactly where the listing is refused so, with that place
+  pub lookup-reader : (n t q : ℕ) → readersOwn n ≡ true → (lookupOf s k z c r ≡ Refused n t q) ↔ (outcome s ≡ reading.Refused n t q)
+  lookup-reader n t q l = (λ e. ⊎-elim (λ h. absurd (false≢true (ap readersOwn (h .2) ∙ l))) (λ o. o) (lookup-refused n t q e), lookup-turned n t q)
 
   -- a row that is returned was looked for in an accepted listing
   lookup-found : (i : ℕ) → lookupOf s k z c r ≡ At i → (isAccepted (outcome s) ≡ true) × (tileAt ts (cs .row k .name) z c r ≡ At i)

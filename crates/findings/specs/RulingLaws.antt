@@ -10,7 +10,7 @@ use lib.Dec.{eqb}
 use lib.IntN.{pos, negsuc}
 use lib.ListN.{getD}
 use Rattle.listing.specs.Refusals.{outcome, numberOf, isAccepted}
-use Rattle.listing.specs.RefusalLaws.{accepted-is}
+use Rattle.listing.specs.RefusalLaws.{readersOwn, accepted-is}
 use Rattle.listing.specs.declared.Outcome.{Outcome}
 use Rattle.listing.specs.declared.Outcome.the-variants as reading
 use Rattle.pack.specs.Rows.{Pack, rowsIn}
@@ -27,7 +27,7 @@ use Rattle.findings.specs.Demands.{Stands, Listed, Asked, LowestRow, NoF
 use Rattle.findings.specs.VerdictLaws.{verdict-of-list, fail-found, found-fail}
 use Rattle.findings.specs.StandsLaws.{only-stands, stands-only, ordered-only, head-lowest}
 use Rattle.findings.specs.ReportedLaws.{reported-judged, reported-exactly, reported-ordered}
-use Rattle.findings.specs.RefusedLaws.{number-most}
+use Rattle.findings.specs.RefusedLaws.{number-other}
 use Rattle.findings.specs.declared.Ruling.{Ruling}
 use Rattle.findings.specs.declared.Ruling.the-variants.{Pass, Fail, NotTestable, Refused}
 
@@ -172,12 +172,12 @@ module _ (s : List ℕ) (c : ℕ) where
   -- 9: "a verdict asked for a code not listed; checked before 1"
   pub verdict-nine : (verdictOf s c ≡ Refused 9 0 0) ↔ (tableOf c ≡ 0)
   verdict-nine =
-      (λ e. ⊎-elim (λ h. h .0) (λ h. absurd (omega (arith, ap numberOf (h .1), number-most s))) (verdict-refused 9 0 0 e), verdict-unlisted)
+      (λ e. ⊎-elim (λ h. h .0) (λ h. absurd (number-other s 9 refl (ap numberOf (h .1)))) (verdict-refused 9 0 0 e), verdict-unlisted)
 
-  -- 1 to 8: exactly where the code is listed and the listing is refused so, with that place
-  pub verdict-reader : (n t r : ℕ) → n ≤ 8 → (verdictOf s c ≡ Refused n t r) ↔ (Listed c × (outcome s ≡ reading.Refused n t r))
+  -- 1 to 8 and 13: exactly where the code is listed and the listing is refused so, with that place
+  pub verdict-reader : (n t r : ℕ) → readersOwn n ≡ true → (verdictOf s c ≡ Refused n t r) ↔ (Listed c × (outcome s ≡ reading.Refused n t r))
   verdict-reader n t r l =
-      (λ e. ⊎-elim (λ h. absurd (omega (arith, h .1))) (λ h. h) (verdict-refused n t r e), λ q. verdict-turned n t r (q .0) (q .1))
+      (λ e. ⊎-elim (λ h. absurd (false≢true (ap readersOwn (h .1) ∙ l))) (λ h. h) (verdict-refused n t r e), λ q. verdict-turned n t r (q .0) (q .1))
 
   ordered : isAccepted (outcome s) ≡ true → Ordered (findings (packOf s))
   ordered a = subst Ordered (reported-judged s a) (reported-ordered s)

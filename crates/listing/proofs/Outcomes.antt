@@ -2,17 +2,19 @@
 use Prim.Native.Nat.{ℕ, _<_, _≤_}
 use mathlib.Core.Path.{_≡_, sym, ap, _∙_}
 use mathlib.Core.List.{List}
-use mathlib.Core.Bool.{true, false, not}
+use mathlib.Core.Bool.{Bool, true, false, not}
 use borrow.Author.Needs.{needs}
 use borrow.Author.Tests.{lt-ltb, le-ltb, eq-eqb, ne-eqb}
 use lib.Dec.{eqb}
 use Rattle.octets.specs.Search.{first, any}
 use Rattle.octets.specs.SearchLaws.{finds, misses}
+use Rattle.octets.specs.declared.Text.{Text}
 use Rattle.listing.specs.Listing.{table, tablesOf, numbered, rows, layout}
 use Rattle.listing.specs.TableLaws.{tables-numbered}
-use Rattle.listing.specs.Refusals.{Reason, lowestBadRow, badContents, headerReasons, rowReasons, checked, rowOutcome, outcome}
+use Rattle.listing.specs.Refusals.{Reason, lowestFaultyRow, faultyTable, badContents, headerReasons, rowReasons, checked, rowOutcome, outcome}
 use Rattle.listing.specs.ReasonLaws.{thereAt, answerBy, Passed, pasts, decide-past, decide-stop, decide-fault, decide-clean}
 use Rattle.listing.specs.RefusalLaws.{reasons, answerAt}
+use Rattle.listing.specs.FaultLaws.{Found}
 use Rattle.listing.specs.declared.Checked.{Checked}
 use Rattle.listing.specs.declared.Checked.the-variants.{Clean, Fault}
 use Rattle.listing.specs.declared.Outcome.{Outcome}
@@ -34,9 +36,9 @@ pub check-stop : (k : ℕ) (xs : List Reason) (r : Checked) → Passed xs k → 
 unfolding checked
 check-stop k xs r h e q = q ∙ sym (decide-stop Fault xs Clean k h e)
 
-pub check-past : (ts : ℕ → List ℕ) (r : Checked) → Passed (rowReasons ts) 2 → r ≡ Clean → r ≡ checked (rowReasons ts)
+pub check-past : (ts : ℕ → List ℕ) (r : Checked) → Passed (rowReasons ts) 3 → r ≡ Clean → r ≡ checked (rowReasons ts)
 unfolding checked rowReasons
-check-past ts r h q = q ∙ sym (decide-past Fault (rowReasons ts) Clean 2 h)
+check-past ts r h q = q ∙ sym (decide-past Fault (rowReasons ts) Clean 3 h)
 
 -- and those of a listing: what the check of them has said
 module _ (s : List ℕ) (ts : List (List ℕ)) (c : Checked) (r : Outcome) (e : ts ≡ tablesOf s) (h : c ≡ checked (rowReasons (numbered ts))) where
@@ -67,10 +69,21 @@ agrees a b v e q = ap not (eq-eqb a b (sym e ∙ q))
 
 pub ruleset headers = (pasts, placed, lt-ltb, le-ltb, differs, agrees, finds, misses, needs)
 
--- of reasons 7 and 8, by the table that the code has cut
-pub lowest-at : (ts : ℕ → List ℕ) (k m i : ℕ) → i ≡ lowestBadRow ts k → k ≡ m → i ≡ lowestBadRow ts m
-lowest-at ts k m i e f = cc
+-- of reason 7, by the place that the code has found
+module _ (fault : Bool → Text → Bool) (ts : ℕ → List ℕ) (k i : ℕ) (h : Found fault ts k i) where
+  pub found-there : k < 7 → any (faultyTable fault ts) 7 ≡ true
+  found-there l = finds (faultyTable fault ts) 7 k (h .table) l
 
+  pub found-none : 7 ≤ k → any (faultyTable fault ts) 7 ≡ false
+  found-none l = misses (faultyTable fault ts) 7 k (h .table) l
+
+  pub found-table : k ≡ first (faultyTable fault ts) 7
+  found-table = h .table
+
+  pub found-row : k < 7 → i ≡ lowestFaultyRow fault ts (first (faultyTable fault ts) 7)
+  found-row l = h .row l ∙ ap (lowestFaultyRow fault ts) (h .table)
+
+-- of reason 8, by the table that the code has cut
 module _ (t u : List ℕ) (i : ℕ) (e : t ≡ u) (f : i ≡ first (badContents t) (rows 2 t)) where
   pub contents-at : i ≡ first (badContents u) (rows 2 u)
   contents-at = cc
@@ -83,4 +96,4 @@ module _ (t u : List ℕ) (i : ℕ) (e : t ≡ u) (f : i ≡ first (badContents 
   unfolding any
   contents-miss n g l = cc (le-ltb i n l)
 
-pub ruleset bodies = (pasts, faulted, finds, misses, lowest-at, contents-at, contents-find, contents-miss, needs)
+pub ruleset bodies = (pasts, faulted, found-there, found-none, found-table, found-row, contents-at, contents-find, contents-miss, needs)

@@ -6,3 +6,5 @@ pub mod Refusals
 pub mod ReasonLaws
 pub mod RefusalLaws
 pub mod ListingLaws
+pub mod FaultLaws
+pub mod IllWorked

@@ -12,13 +12,15 @@ use lib.Seq.{take-add, take-length}
 use Rattle.octets.specs.Octets.{le32, part}
 use Rattle.octets.specs.Search.{first, any}
 use Rattle.octets.specs.SearchLaws.{first-lowest, none-at}
+use Rattle.octets.specs.Texts.{outside}
+use Rattle.octets.specs.declared.Text.{Text}
 use Rattle.octets.specs.Gather.{gather}
 use Rattle.octets.specs.GatherLaws.{gather-agree}
 use Rattle.listing.specs.Listing.{row, most, version, total, count, offset, start, table, rows}
 use Rattle.listing.specs.TableLaws.{tables-seven}
 use Rattle.listing.specs.Header.{startOf, two, pair, pairs, header}
 use Rattle.listing.specs.HeaderLaws.{start-read, start-grows, pairs-back}
-use Rattle.listing.specs.Refusals.{over, moved, badRow, lowestBadRow, badTable, badContents, headerReasons, rowReasons, outcome, isAccepted}
+use Rattle.listing.specs.Refusals.{over, moved, ill, faultyRow, lowestFaultyRow, faultyTable, badContents, headerReasons, rowReasons, outcome, isAccepted}
 use Rattle.listing.specs.RefusalLaws.{accepted-exactly}
 
 -- every table has a row of some octets
@@ -89,14 +91,18 @@ module _ (s : List ℕ) (a : isAccepted (outcome s) ≡ true) where
   pub listing-whole : s ≡ take 64 s ++ table s 1 ++ table s 2 ++ table s 3 ++ table s 4 ++ table s 5 ++ table s 6 ++ table s 7
   listing-whole = sym header-and-tables ∙ simp (tables-seven s .none, append-assoc)
 
-  -- no row has a text outside the names, and no flag of the contents is at fault
-  pub no-bad-table : (k : ℕ) → k ≤ 6 → badTable (table s) k ≡ false
-  unfolding headerReasons rowReasons
-  no-bad-table k h = none-at (badTable (table s)) 7 (accepted-exactly s .0 a 6) k (omega arith)
+  -- no row has a text outside the names, or one that is not well-formed, and no flag of the contents is at fault
+  no-row-by : (fault : Bool → Text → Bool) → any (faultyTable fault (table s)) 7 ≡ false → (k i : ℕ) → 1 ≤ k → k ≤ 6 → i < rows k (table s k) → faultyRow fault k (table s k) i ≡ false
+  unfolding faultyTable lowestFaultyRow any
+  no-row-by fault e k i l h b = none-at (faultyRow fault k (table s k)) (rows k (table s k)) (simp (lt-ltb 0 k l) at (none-at (faultyTable fault (table s)) 7 e k (omega arith))) i b
 
-  pub no-bad-row : (k i : ℕ) → 1 ≤ k → k ≤ 6 → i < rows k (table s k) → badRow (length (table s 7)) k (table s k) i ≡ false
-  unfolding badTable lowestBadRow any
-  no-bad-row k i l h b = none-at (badRow (length (table s 7)) k (table s k)) (rows k (table s k)) (simp (lt-ltb 0 k l) at (no-bad-table k h)) i b
+  pub no-bad-row : (k i : ℕ) → 1 ≤ k → k ≤ 6 → i < rows k (table s k) → faultyRow (outside (length (table s 7))) k (table s k) i ≡ false
+  unfolding headerReasons rowReasons
+  no-bad-row = no-row-by (outside (length (table s 7))) (accepted-exactly s .0 a 6)
+
+  pub no-ill-row : (k i : ℕ) → 1 ≤ k → k ≤ 6 → i < rows k (table s k) → faultyRow (ill (table s 7)) k (table s k) i ≡ false
+  unfolding headerReasons rowReasons
+  no-ill-row = no-row-by (ill (table s 7)) (accepted-exactly s .0 a 8)
 
   pub no-bad-contents : (i : ℕ) → i < rows 2 (table s 2) → badContents (table s 2) i ≡ false
   unfolding headerReasons rowReasons

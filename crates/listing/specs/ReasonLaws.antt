@@ -1,12 +1,17 @@
 -- The laws of any list of reasons, whatever the answer is made of: each reason is given exactly when its fault is there and no earlier one is.
-use Prim.Native.Nat.{ℕ, zero, suc, _+_, _<_}
+use Prim.Native.Nat.{ℕ, zero, suc, _<_, _≤_}
 use mathlib.Core.Path.{_≡_, refl, sym, ap, _∙_, subst}
 use mathlib.Core.List.{List, [], _∷_, _++_}
-use mathlib.Core.Bool.{Bool, true, false, cond, false≢true}
+use mathlib.Core.Bool.{Bool, true, false, cond, not, _&&_, false≢true, and-eq-true-iff}
 use mathlib.Core.Logic.{_⊎_, inl, inr, _↔_, ⊎-elim}
-use native.Mathlib.Nat.{le-of-suc-le-suc, eq-or-lt-of-le, not-suc-le-zero}
+use native.Mathlib.Nat.{le-of-suc-le-suc, eq-or-lt-of-le, not-suc-le-zero, le-antisymm, lt-of-not-le}
+use native.Mathlib.Decide.{decLe}
 use native.Mathlib.Omega.{arith}
-use lib.ListN.{length, drop}
+use borrow.Author.Tests.{eqb-true, not-false}
+use lib.Dec.{eqb}
+use lib.ListN.{length, drop, getD}
+use Rattle.octets.specs.Search.{first, any}
+use Rattle.octets.specs.SearchLaws.{none-at}
 use Rattle.listing.specs.Refusals.{Reason, decideBy, checked}
 use Rattle.listing.specs.declared.Checked.{Checked}
 use Rattle.listing.specs.declared.Checked.the-variants.{Clean, Fault}
@@ -72,6 +77,13 @@ Free xs = (i : ℕ) → thereAt xs i ≡ false
 pub record Given (xs : List Reason) (k : ℕ) : Type 0 where
   pub passed : Passed xs k
   pub there : thereAt xs k ≡ true
+
+-- no two are
+pub given-one : (xs : List Reason) (j k : ℕ) → Given xs j → Given xs k → j ≡ k
+given-one xs j k g h = le-antisymm (before j k g h) (before k j h g)
+  where
+    before : (j k : ℕ) → Given xs j → Given xs k → j ≤ k
+    before j k g h = elim (decLe j k) [ yes l ↦ l | no l ↦ absurd (false≢true (sym (g .passed .none k (lt-of-not-le l)) ∙ h .there)) ]
 
 -- a reason is given, or none is there
 pub given-or-none : (xs : List Reason) → ((k : ℕ) × Given xs k) ⊎ Free xs
@@ -175,7 +187,8 @@ module _ {A : Type 0} (refuse : ℕ → ℕ → ℕ → A) (num : A → ℕ) (sa
       by e (inl g) = (g .0, g .1, sym (given-number xs o (g .0) (g .1)) ∙ e)
       by e (inr f) = absurd (omega (arith, e, ap num (decide-none refuse xs o f), z))
 
-there-within : (xs : List Reason) (k : ℕ) → thereAt xs k ≡ true → k < length xs
+-- a reason that is there is one of the list
+pub there-within : (xs : List Reason) (k : ℕ) → thereAt xs k ≡ true → k < length xs
 there-within [] k e = absurd (false≢true e)
 there-within (x ∷ xs) zero e = omega arith
 there-within (x ∷ xs) (suc k) e = omega (arith, there-within xs k e)
@@ -184,6 +197,45 @@ there-within (x ∷ xs) (suc k) e = omega (arith, there-within xs k e)
 pub record Apart (xs : List Reason) (place : ℕ → ℕ) : Type 0 where
   pub found : (k : ℕ) → k < length xs → place (numberAt xs k) ≡ k
   pub other : place 0 ≡ length xs
+
+-- where a number stands among some, or how many there are
+unfoldable pub placeIn : List ℕ → ℕ → ℕ
+placeIn ns n = first (λ i. eqb (getD ns i 0) n) (length ns)
+
+-- each stands at its own place alone, and 0 at none
+unfoldable pub distinct : List ℕ → Bool
+distinct ns = not (any (λ k. not (eqb (placeIn ns (getD ns k 0)) k)) (length ns)) && eqb (placeIn ns 0) (length ns)
+
+abbrev pub numbersOf : List Reason → List ℕ
+numbersOf [] = []
+numbersOf (x ∷ xs) = x .number ∷ numbersOf xs
+
+numbers-length : (xs : List Reason) → length (numbersOf xs) ≡ length xs
+numbers-length [] = refl
+numbers-length (x ∷ xs) = ap suc (numbers-length xs)
+
+numbers-at : (xs : List Reason) (k : ℕ) → numberAt xs k ≡ getD (numbersOf xs) k 0
+numbers-at [] k = refl
+numbers-at (x ∷ xs) zero = refl
+numbers-at (x ∷ xs) (suc k) = numbers-at xs k
+
+-- that a list's numbers are so is worked out
+pub apart-by : (xs : List Reason) → distinct (numbersOf xs) ≡ true → Apart xs (placeIn (numbersOf xs))
+unfolding distinct
+apart-by xs e = record {
+  found = λ k l. ap (placeIn ns) (numbers-at xs k) ∙ eqb-true (placeIn ns (getD ns k 0)) k (not-false _ (none-at (λ k. not (eqb (placeIn ns (getD ns k 0)) k)) (length ns) (not-true _ (both .0)) k (omega (arith, l, numbers-length xs))));
+  other = eqb-true (placeIn ns 0) (length ns) (both .1) ∙ numbers-length xs;
+}
+  where
+    ns : List ℕ
+    ns = numbersOf xs
+
+    both : (not (any (λ k. not (eqb (placeIn ns (getD ns k 0)) k)) (length ns)) ≡ true) × (eqb (placeIn ns 0) (length ns) ≡ true)
+    both = and-eq-true-iff (not (any (λ k. not (eqb (placeIn ns (getD ns k 0)) k)) (length ns))) (eqb (placeIn ns 0) (length ns)) .0 e
+
+    not-true : (b : Bool) → not b ≡ true → b ≡ false
+    not-true true h = absurd (false≢true h)
+    not-true false h = refl
 
 -- and then each of the reasons is given exactly when its fault is there and no earlier one is
 pub given-exactly : {A : Type 0} (refuse : ℕ → ℕ → ℕ → A) (num : A → ℕ) (says : (n t r : ℕ) → num (refuse n t r) ≡ n)

@@ -18,8 +18,6 @@ pub use put::put_header;
 pub use put::start_by;
 pub use refusals::accept;
 pub use refusals::check_rows;
-pub use rows::first_bad_contents;
-pub use rows::first_bad_row;
 pub use rows::rows_of;
 pub use tables::TABLE_COUNT;
 pub use tables::cut;
@@ -203,6 +201,12 @@ pub struct Layout {
     pub tiles: TileTable,
     pub extensions: ExtensionTable,
     pub names: NameTable,
+}
+
+// What is asked of a text: whether it is outside the names, or NULL where that is not allowed; or whether it is that or not well-formed.
+pub enum TextFault {
+    Outside,
+    Either,
 }
 
 // What a check of some reasons says: none is there, or the first that is.

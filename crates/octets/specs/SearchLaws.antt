@@ -1,7 +1,7 @@
 -- The laws of a search that every loop cites. They know nothing of what is searched.
 use Prim.Native.Nat.{ℕ, zero, suc, _+_, _≤_, _<_, zero-le}
-use mathlib.Core.Path.{_≡_, refl, sym, _∙_, subst}
-use mathlib.Core.Bool.{Bool, true, false, cond, false≢true}
+use mathlib.Core.Path.{_≡_, refl, sym, ap, _∙_, subst}
+use mathlib.Core.Bool.{Bool, true, false, cond, _||_, false≢true}
 use mathlib.Core.Logic.{⊎-elim}
 use native.Mathlib.Nat.{le-refl, le-antisymm, le-of-suc-le-suc, eq-or-lt-of-le, not-suc-le-zero, not-suc-le-self}
 use native.Mathlib.Numerals.{add-one, add-one-le}
@@ -140,3 +140,25 @@ first-agree p q (suc n) h =
     let e : first p n ≡ first q n = first-agree p q n (λ i l. h i (omega arith)) in
     let f : p n ≡ q n = h n (omega arith) in
     simp (e, f)
+
+pub any-agree : (p q : ℕ → Bool) (n : ℕ) → ((i : ℕ) → i < n → p i ≡ q i) → any p n ≡ any q n
+unfolding any
+any-agree p q n h = ap (λ (r : ℕ). ltb r n) (first-agree p q n h)
+
+-- a search for one of two finds something where one of them does
+module _ (p q : ℕ → Bool) (n : ℕ) where
+  some : (r : ℕ → Bool) → any r n ≡ true → (first r n < n) × (r (first r n) ≡ true)
+  unfolding any
+  some r e = let l : first r n < n = ltb-true (first r n) n e in (l, first-lowest r n .here l)
+
+  pub any-or : any (λ i. p i || q i) n ≡ (any p n || any q n)
+  any-or = by (any p n) (any q n) refl refl
+    where
+      right : (a : Bool) → (a || true) ≡ true
+      right true = refl
+      right false = refl
+
+      by : (a b : Bool) → any p n ≡ a → any q n ≡ b → any (λ i. p i || q i) n ≡ (a || b)
+      by true b e f = let s = some p e in any-some (λ i. p i || q i) n (first p n) (s .0) (simp (s .1))
+      by false true e f = let s = some q f in any-some (λ i. p i || q i) n (first q n) (s .0) (ap (λ (x : Bool). p (first q n) || x) (s .1) ∙ right (p (first q n)))
+      by false false e f = any-none (λ i. p i || q i) n (λ i l. let u : p i ≡ false = none-at p n e i l in let v : q i ≡ false = none-at q n f i l in simp (u, v))

@@ -2,14 +2,15 @@
 use Prim.Native.Nat.{ℕ}
 use mathlib.Core.Path.{_≡_, refl}
 use mathlib.Core.List.{List, [], _∷_, _++_}
-use lib.ListN.{length, replicate}
-use Rattle.octets.specs.Octets.{le32, le64}
+use lib.ListN.{replicate}
+use Rattle.octets.specs.Octets.{le32, le64, part}
 use Rattle.octets.specs.Slices.{nth}
 use Rattle.octets.specs.Search.{first, any}
 use Rattle.octets.specs.Texts.{textAt}
+use Rattle.utf8.specs.Utf8.{inRange, table37, size, wellFormed}
 use Rattle.listing.specs.Listing.{row, most, rows, numbered}
 use Rattle.listing.specs.Header.{startOf, two, pairs}
-use Rattle.listing.specs.Refusals.{textBase, textCount, nullCount, badText, badRow, lowestBadRow, badTable, badContents, rowReasons}
+use Rattle.listing.specs.Refusals.{textBase, textCount, nullCount, faultyText, faultyRow, lowestFaultyRow, faultyTable, badContents, rowReasons}
 use Rattle.writer.specs.Parts.{sizeOf, countOf, joined, written}
 use Rattle.writer.specs.Writing.{ragged, crowded, sizeReasons, writeReasons, writeAnswer, numberIn, tableIn, rowIn, octetsIn}
 use Rattle.writer.specs.declared.Written.{Written}
@@ -59,8 +60,10 @@ answers =
     ∷ answer (mixed [] [] (null ++ replicate 24 0) []) 96 ∷ answer (mixed [] [] (replicate 16 0 ++ (null ++ replicate 8 0)) []) 96
     -- flag 1 and flag 2; flag 2 with a text outside in table 5: 7 before 8
     ∷ answer (mixed (contents 1) [] [] []) 104 ∷ answer (mixed (contents 2) [] [] []) 104 ∷ answer (mixed (contents 2) (tile 0) [] []) 136
+    -- an octet that is no UTF-8, where a text has it and where none does; with flag 2: 8 before 13
+    ∷ answer (mixed [] (tile 0) [] (255 ∷ [])) 97 ∷ answer (mixed [] (tile 0) [] (97 ∷ 255 ∷ [])) 98 ∷ answer (mixed (contents 2) (tile 0) [] (255 ∷ [])) 137
     -- a faulty part and no buffer: 12 is last
-    ∷ answer (mixed (contents 2) [] [] []) 0 ∷ answer (references 31) 0 ∷ answer (mixed [] (tile 0) [] []) 0
+    ∷ answer (mixed (contents 2) [] [] []) 0 ∷ answer (references 31) 0 ∷ answer (mixed [] (tile 0) [] []) 0 ∷ answer (mixed [] (tile 0) [] (255 ∷ [])) 0
     ∷ []
 
 pub worked : answers ≡
@@ -70,9 +73,10 @@ pub worked : answers ≡
     ∷ (0 ∷ 0 ∷ 0 ∷ 97 ∷ []) ∷ (7 ∷ 5 ∷ 0 ∷ 0 ∷ [])
     ∷ (0 ∷ 0 ∷ 0 ∷ 96 ∷ []) ∷ (7 ∷ 6 ∷ 0 ∷ 0 ∷ [])
     ∷ (0 ∷ 0 ∷ 0 ∷ 104 ∷ []) ∷ (8 ∷ 2 ∷ 0 ∷ 0 ∷ []) ∷ (7 ∷ 5 ∷ 0 ∷ 0 ∷ [])
-    ∷ (8 ∷ 2 ∷ 0 ∷ 0 ∷ []) ∷ (11 ∷ 1 ∷ 0 ∷ 0 ∷ []) ∷ (7 ∷ 5 ∷ 0 ∷ 0 ∷ [])
+    ∷ (13 ∷ 5 ∷ 0 ∷ 0 ∷ []) ∷ (0 ∷ 0 ∷ 0 ∷ 98 ∷ []) ∷ (8 ∷ 2 ∷ 0 ∷ 0 ∷ [])
+    ∷ (8 ∷ 2 ∷ 0 ∷ 0 ∷ []) ∷ (11 ∷ 1 ∷ 0 ∷ 0 ∷ []) ∷ (7 ∷ 5 ∷ 0 ∷ 0 ∷ []) ∷ (13 ∷ 5 ∷ 0 ∷ 0 ∷ [])
     ∷ []
-unfolding le32 le64 nth first any textAt row most rows numbered startOf two pairs textBase textCount nullCount badText badRow lowestBadRow badTable badContents rowReasons sizeOf countOf joined written ragged crowded sizeReasons writeReasons writeAnswer
+unfolding le32 le64 nth first any textAt row most rows numbered startOf two pairs textBase textCount nullCount faultyText faultyRow lowestFaultyRow faultyTable badContents part inRange table37 size wellFormed rowReasons sizeOf countOf joined written ragged crowded sizeReasons writeReasons writeAnswer
 worked = refl
 
 -- the header of a contents row alone: version 1 and length 104; counts 0 and 1, and each offset the end of the table before

@@ -1,7 +1,7 @@
 -- What the writer's answers say: what it writes the reader accepts with the same tables, the tables of an accepted listing write back to it, and each reason is given exactly when its fault is there and no earlier one is.
-use Prim.Native.Nat.{ℕ, zero, suc, _+_, _*_, _%_, _^_, _<_, _≤_}
+use Prim.Native.Nat.{ℕ, zero, suc, _*_, _%_, _^_, _<_, _≤_}
 use mathlib.Core.Path.{_≡_, refl, sym, ap, _∙_, subst}
-use mathlib.Core.List.{List, [], _∷_, _++_, map}
+use mathlib.Core.List.{List, [], _∷_, _++_}
 use mathlib.Core.Bool.{Bool, true, false, not, _&&_}
 use mathlib.Core.Logic.{_⊎_, inl, inr, _↔_}
 use native.Mathlib.Nat.{div-add-mod, mul-mod-right}
@@ -13,13 +13,13 @@ use Rattle.octets.specs.Octets.{filled}
 use Rattle.octets.specs.Search.{first, any}
 use Rattle.octets.specs.SearchLaws.{none-at, any-none}
 use Rattle.octets.specs.Gather.{gather}
-use Rattle.listing.specs.Listing.{row, most, version, total, count, offset, start, table, rows, layout}
+use Rattle.listing.specs.Listing.{row, most, version, total, offset, start, table, rows, layout}
 use Rattle.listing.specs.TableLaws.{Seven}
 use Rattle.listing.specs.Header.{startOf}
 use Rattle.listing.specs.HeaderLaws.{version-read, total-read, count-read}
-use Rattle.listing.specs.Refusals.{Reason, over, moved, headerReasons, rowReasons, decideBy, decide, outcome, isAccepted}
-use Rattle.listing.specs.ReasonLaws.{numberAt, answerBy, Free, Given, given-or-none, free-left, free-right, free-both, decide-stop, decide-none, decide-both, decide-turned, Apart, given-exactly, none-given, good-exactly}
-use Rattle.listing.specs.RefusalLaws.{reasons, accepted-exactly}
+use Rattle.listing.specs.Refusals.{over, moved, headerReasons, rowReasons, decideBy, decide, outcome, isAccepted}
+use Rattle.listing.specs.ReasonLaws.{numberAt, numbersOf, placeIn, distinct, apart-by, answerBy, Free, Given, given-or-none, free-left, free-right, free-both, decide-stop, decide-none, decide-both, decide-turned, Apart, given-exactly, none-given, good-exactly}
+use Rattle.listing.specs.RefusalLaws.{accepted-exactly}
 use Rattle.listing.specs.declared.Outcome.{Outcome}
 use Rattle.listing.specs.declared.Outcome.the-variants as reader
 use Rattle.writer.specs.Parts.{sizeOf, countOf, joined, written}
@@ -131,7 +131,7 @@ module _ (ps : ℕ → List ℕ) (v : Seven ps) (w : Sized ps) where
       ∙ decide-none reader.Refused (headerReasons (written ps)) (decide (rowReasons (table (written ps))) (reader.Accepted (layout (written ps)))) header-free
       ∙ ap (λ (ts : ℕ → List ℕ). decide (rowReasons ts) (reader.Accepted (layout (written ps)))) (tables-written ps v w)
 
-  -- "7 and 8 as the reader would give them": its refusal of the listing put together from the parts, or else what the room says
+  -- "7 and 8 as the reader would give them", and 13 after them: its refusal of the listing put together from the parts, or else what the room says
   pub as-reader : (room : ℕ) → writeAnswer ps room ≡ refusalOr (outcome (written ps)) (roomAnswer ps room)
   unfolding writeAnswer writeReasons roomAnswer
   as-reader room =
@@ -202,31 +202,20 @@ module _ (s : List ℕ) (a : isAccepted (outcome s) ≡ true) (p : (k : ℕ) →
   writes-all room l = decide-none Refused (writeReasons (table s) room) (Octets (length (written (table s)))) (free room l) ∙ ap (λ (n : ℕ). Octets n) (ap length writes-back)
 
 -- ---- each reason exactly
--- they are these five, in this order
-pub write-numbers : (ps : ℕ → List ℕ) (room : ℕ) → map (λ (x : Reason). x .number) (writeReasons ps room) ≡ 11 ∷ 5 ∷ 7 ∷ 8 ∷ 12 ∷ []
+-- they are these six, in this order
+pub write-numbers : (ps : ℕ → List ℕ) (room : ℕ) → numbersOf (writeReasons ps room) ≡ 11 ∷ 5 ∷ 7 ∷ 8 ∷ 13 ∷ 12 ∷ []
 unfolding writeReasons sizeReasons rowReasons
 write-numbers ps room = refl
 
-unfoldable place : ℕ → ℕ
-place n = first (λ i. eqb (getD (11 ∷ 5 ∷ 7 ∷ 8 ∷ 12 ∷ []) i 0) n) 5
-
 module _ (ps : ℕ → List ℕ) (room : ℕ) where
-  apart : Apart (writeReasons ps room) place
-  unfolding place first writeReasons sizeReasons rowReasons
-  apart = record { found = found; other = refl }
-    where
-      found : (k : ℕ) → k < 5 → place (numberAt (writeReasons ps room) k) ≡ k
-      found zero l = refl
-      found (suc zero) l = refl
-      found (suc (suc zero)) l = refl
-      found (suc (suc (suc zero))) l = refl
-      found (suc (suc (suc (suc zero)))) l = refl
-      found (suc (suc (suc (suc (suc k))))) l = absurd (omega (arith, l))
+  apart : Apart (writeReasons ps room) (placeIn (numbersOf (writeReasons ps room)))
+  unfolding writeReasons sizeReasons rowReasons placeIn distinct first any
+  apart = apart-by (writeReasons ps room) refl
 
   -- reason k of them is given exactly when its fault is there and none before it is, and then with its place
-  pub refused-exactly : (k : ℕ) → k < 5 → (numberIn (writeAnswer ps room) ≡ numberAt (writeReasons ps room) k) ↔ Given (writeReasons ps room) k
+  pub refused-exactly : (k : ℕ) → k < 6 → (numberIn (writeAnswer ps room) ≡ numberAt (writeReasons ps room) k) ↔ Given (writeReasons ps room) k
   unfolding writeAnswer writeReasons sizeReasons rowReasons
-  refused-exactly k l = given-exactly Refused numberIn (λ n t r. refl) (writeReasons ps room) place (Octets (length (written ps))) k apart refl l
+  refused-exactly k l = given-exactly Refused numberIn (λ n t r. refl) (writeReasons ps room) (placeIn (numbersOf (writeReasons ps room))) (Octets (length (written ps))) k apart refl l
 
   pub refused-place : (k : ℕ) → Given (writeReasons ps room) k → writeAnswer ps room ≡ answerBy Refused (writeReasons ps room) k (Octets (length (written ps)))
   unfolding writeAnswer
@@ -246,7 +235,7 @@ module _ (ps : ℕ → List ℕ) (room : ℕ) where
   unfolding writeAnswer
   number-none e =
       decide-none Refused (writeReasons ps room) (Octets (length (written ps)))
-      (none-given Refused numberIn (λ n t r. refl) (writeReasons ps room) place (Octets (length (written ps))) apart e)
+      (none-given Refused numberIn (λ n t r. refl) (writeReasons ps room) (placeIn (numbersOf (writeReasons ps room))) (Octets (length (written ps))) apart e)
 
 -- ---- one answer, and one buffer
 pub write-one : (ps : ℕ → List ℕ) (b b₁ b₂ : List ℕ) (r q : Written) → WriteOf ps b r b₁ → WriteOf ps b q b₂ → (r ≡ q) × (b₁ ≡ b₂)

@@ -40,7 +40,7 @@ sizeReasons ps =
 abbrev pub shortReason : (ℕ → List ℕ) → ℕ → Reason
 shortReason ps room = record { number = 12; there = ltb room (length (written ps)); atTable = 0; atRow = 0 }
 
--- between them "7 and 8 as the reader would give them"; 12 "is last"
+-- between them "7 and 8 as the reader would give them", and 13 "after 8 and before 12"
 unfoldable pub writeReasons : (ℕ → List ℕ) → ℕ → List Reason
 writeReasons ps room = sizeReasons ps ++ (rowReasons ps ++ (shortReason ps room ∷ []))
 
@@ -48,7 +48,7 @@ writeReasons ps room = sizeReasons ps ++ (rowReasons ps ++ (shortReason ps room 
 unfoldable pub writeAnswer : (ℕ → List ℕ) → ℕ → Written
 writeAnswer ps room = decideBy Refused (writeReasons ps room) (Octets (length (written ps)))
 
--- what is left to answer where 11 and 5 are not there, and where 7 and 8 are not
+-- what is left to answer where 11 and 5 are not there, and where no reason of the rows is
 unfoldable pub roomAnswer : (ℕ → List ℕ) → ℕ → Written
 roomAnswer ps room = decideBy Refused (shortReason ps room ∷ []) (Octets (length (written ps)))
 
