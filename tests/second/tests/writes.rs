@@ -42,7 +42,7 @@ fn what_is_written_is_accepted_with_the_same_rows_and_names() {
                 assert_eq!(tables, Ok(parts.each_ref().map(Vec::as_slice)), "seed {seed}");
                 written += 1;
             }
-            Err(refusal) => assert!([11, 5, 7, 8].contains(&refusal.number), "seed {seed}"),
+            Err(refusal) => assert!([11, 5, 7, 8, 13].contains(&refusal.number), "seed {seed}"),
         }
     }
     assert!(written > 300 && written < 800, "{written}");

@@ -11,7 +11,7 @@ pub type Parts = [Vec<u8>; TABLE_COUNT];
 pub fn write(parts: &Parts, room: usize) -> Result<Vec<u8>, Refusal> {
     check_lengths(&parts.each_ref().map(|part| part.len() as u64))?;
     let listing = put_together(parts);
-    // "7 and 8 as the reader would give them": it is asked.
+    // "7 and 8 as the reader would give them", and 13 after them: it is asked.
     read(&listing)?;
     match room < listing.len() {
         true => Err(Refusal::at_large(12)),

@@ -3,8 +3,9 @@
 pub mod layout;
 mod refusals;
 mod rows;
+mod utf8;
 
-pub use refusals::{check_contents, check_texts, read, Refusal};
+pub use refusals::{check_contents, check_texts, check_utf8, read, Refusal};
 pub use rows::{Contents, Extension, Extent, Matrix, MatrixSet, Reference, Tile};
 
 use layout::{SHAPES, TABLE_COUNT};

@@ -1,6 +1,9 @@
-//! Reasons 1 to 8 for turning a listing away, in the paper's fixed order.
+//! Reasons 1 to 8 and 13 for turning a listing away, in the papers' fixed order.
+
+use std::ops::Range;
 
 use super::layout::*;
+use super::utf8::Pieces;
 use super::Listing;
 
 /// Why a call was refused: the reason's number and the place.
@@ -29,6 +32,7 @@ pub fn read(octets: &[u8]) -> Result<Listing<'_>, Refusal> {
     let listing = cut_into_tables(octets, &counts)?;
     check_texts(&listing)?;
     check_contents(&listing)?;
+    check_utf8(&listing)?;
     Ok(listing)
 }
 
@@ -85,25 +89,54 @@ fn cut_into_tables<'a>(
 
 /// Reason 7: lowest table, then lowest row.
 pub fn check_texts(listing: &Listing) -> Result<(), Refusal> {
-    let names_end = listing.names().len() as u64;
+    let names_end = listing.names().len();
+    check_every_text(listing, 7, |row, text| {
+        places(row, text, names_end).is_some() || (text.may_be_null && is_null(row, text))
+    })
+}
+
+/// Reason 13: lowest table, then lowest row. A NULL is no text; one outside the
+/// names is reason 7's.
+pub fn check_utf8(listing: &Listing) -> Result<(), Refusal> {
+    let names = listing.names();
+    // Of ASCII every part is well-formed, and most names are ASCII.
+    if names.is_ascii() {
+        return Ok(());
+    }
+    let pieces = Pieces::of(names);
+    check_every_text(listing, 13, |row, text| {
+        places(row, text, names.len()).is_none_or(|places| pieces.is_well_formed(places))
+    })
+}
+
+/// Refuses with this number where a text field of a row is not good.
+#[inline]
+fn check_every_text(
+    listing: &Listing,
+    number: u32,
+    is_good: impl Fn(&[u8], TextField) -> bool,
+) -> Result<(), Refusal> {
     for table in 1..NAMES {
         let texts = SHAPES[table - 1].texts;
         for (row, octets) in listing.row_octets(table).enumerate() {
-            if !texts.iter().all(|&text| is_text(octets, text, names_end)) {
-                return Err(Refusal::at(7, table, row));
+            if !texts.iter().all(|&text| is_good(octets, text)) {
+                return Err(Refusal::at(number, table, row));
             }
         }
     }
     Ok(())
 }
 
-/// Is this field a text inside the names, or a NULL where one may stand?
-/// A NULL elsewhere needs no case of its own: its start is past every end.
-fn is_text(row: &[u8], text: TextField, names_end: u64) -> bool {
-    let start = u32_at(row, text.at);
-    let length = u32_at(row, text.at + 4);
-    let is_null = start == NULL_START && length == 0;
-    u64::from(start) + u64::from(length) <= names_end || (text.may_be_null && is_null)
+/// The places of a text inside the names. A NULL has none: its start is past
+/// every end.
+fn places(row: &[u8], text: TextField, names_end: usize) -> Option<Range<usize>> {
+    let start = u32_at(row, text.at) as usize;
+    let end = start.checked_add(u32_at(row, text.at + 4) as usize)?;
+    (end <= names_end).then_some(start..end)
+}
+
+fn is_null(row: &[u8], text: TextField) -> bool {
+    u32_at(row, text.at) == NULL_START && u32_at(row, text.at + 4) == 0
 }
 
 /// Reason 8: lowest contents row.
