@@ -22,6 +22,7 @@ mod samples;
 mod spans;
 mod texts;
 mod tiles;
+mod utf8;
 mod verdicts;
 mod writes;
 
@@ -64,6 +65,7 @@ pub fn run(samples: PathBuf) -> Tally {
     verdicts::check(&mut tally);
     calls::check(&mut tally);
     writes::check(&mut tally);
+    utf8::check(&mut tally);
     samples::check(&mut tally, &samples);
     tally
 }

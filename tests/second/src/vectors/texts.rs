@@ -4,29 +4,33 @@ use super::base::valley;
 use super::Tally;
 use crate::make::{Draft, Span, NULL};
 
-/// Every text field of the valley: its place, and whether it may be NULL.
-type Field = (&'static str, bool, fn(&mut Draft) -> &mut Span);
+/// A text field of the valley: its place, and whether it may be NULL.
+type Field = (&'static str, bool, TextOf);
 
-const FIELDS: [Field; 12] = [
-    ("7 1 2", false, |d| &mut d.references[2].organization),
-    ("7 1 0", false, |d| &mut d.references[0].definition),
-    ("7 2 0", false, |d| &mut d.contents[0].table_name),
-    ("7 2 0", false, |d| &mut d.contents[0].data_type),
-    ("7 2 0", false, |d| &mut d.contents[0].last_change),
-    ("7 3 0", false, |d| &mut d.sets[0].table_name),
-    ("7 4 2", false, |d| &mut d.matrices[2].table_name),
-    ("7 5 1", false, |d| &mut d.tiles[1].table_name),
-    ("7 6 0", true, |d| &mut d.extensions[0].table_name),
-    ("7 6 0", true, |d| &mut d.extensions[0].column_name),
-    ("7 6 0", false, |d| &mut d.extensions[0].extension_name),
-    ("7 6 0", false, |d| &mut d.extensions[0].scope),
+/// The text itself, to be changed.
+pub type TextOf = fn(&mut Draft) -> &mut Span;
+
+/// Every one, in rows that are not always the first.
+pub const FIELDS: [Field; 12] = [
+    ("1 2", false, |d| &mut d.references[2].organization),
+    ("1 0", false, |d| &mut d.references[0].definition),
+    ("2 0", false, |d| &mut d.contents[0].table_name),
+    ("2 0", false, |d| &mut d.contents[0].data_type),
+    ("2 0", false, |d| &mut d.contents[0].last_change),
+    ("3 0", false, |d| &mut d.sets[0].table_name),
+    ("4 2", false, |d| &mut d.matrices[2].table_name),
+    ("5 1", false, |d| &mut d.tiles[1].table_name),
+    ("6 0", true, |d| &mut d.extensions[0].table_name),
+    ("6 0", true, |d| &mut d.extensions[0].column_name),
+    ("6 0", false, |d| &mut d.extensions[0].extension_name),
+    ("6 0", false, |d| &mut d.extensions[0].scope),
 ];
 
 pub fn check(tally: &mut Tally) {
     for (place, may_be_null, field) in FIELDS {
         check_outside(tally, place, field);
         check_inside(tally, field);
-        let refused = format!("refused {place}");
+        let refused = format!("refused 7 {place}");
         let accepted = is_accepted(field, NULL);
         tally.same("NULL only where allowed", accepted, may_be_null);
         if !may_be_null {
@@ -38,13 +42,13 @@ pub fn check(tally: &mut Tally) {
 }
 
 /// The valley with one text changed.
-fn with(field: fn(&mut Draft) -> &mut Span, text: Span) -> Vec<u8> {
+fn with(field: TextOf, text: Span) -> Vec<u8> {
     let mut draft = valley();
     *field(&mut draft) = text;
     draft.listing()
 }
 
-fn is_accepted(field: fn(&mut Draft) -> &mut Span, text: Span) -> bool {
+fn is_accepted(field: TextOf, text: Span) -> bool {
     crate::calls::report(&with(field, text)).is_ok()
 }
 
@@ -55,10 +59,10 @@ fn text(start: u32, length: u32) -> Span {
 /// The valley's names, counted by hand: EPSG 4, GEOGCS["WGS 84"] 16, NONE 4,
 /// undefined 9, valley 6, tiles 5, the moment 24, tile_data 9, gpkg_webp 9,
 /// read-write 10.
-const NAMES_END: u32 = 96;
+pub const NAMES_END: u32 = 96;
 
-fn check_outside(tally: &mut Tally, place: &str, field: fn(&mut Draft) -> &mut Span) {
-    let refused = format!("refused {place}");
+fn check_outside(tally: &mut Tally, place: &str, field: TextOf) {
+    let refused = format!("refused 7 {place}");
     let outside = [
         ("reading 1: length 0 past the end", text(NAMES_END + 1, 0)),
         ("one past the end", text(NAMES_END - 3, 4)),
@@ -75,7 +79,7 @@ fn check_outside(tally: &mut Tally, place: &str, field: fn(&mut Draft) -> &mut S
     }
 }
 
-fn check_inside(tally: &mut Tally, field: fn(&mut Draft) -> &mut Span) {
+fn check_inside(tally: &mut Tally, field: TextOf) {
     let inside = [
         ("reading 1: length 0 at the end", text(NAMES_END, 0)),
         ("ends at the end", text(NAMES_END - 4, 4)),

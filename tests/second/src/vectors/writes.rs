@@ -26,10 +26,10 @@ pub fn check(tally: &mut Tally) {
 }
 
 /// More than any listing has.
-const AMPLE: usize = 9_762_881;
+pub const AMPLE: usize = 9_762_881;
 
 impl Tally {
-    fn written(&mut self, shows: &str, parts: &Parts, room: usize, want: &str) {
+    pub(super) fn written(&mut self, shows: &str, parts: &Parts, room: usize, want: &str) {
         let got = match write(parts, room) {
             Ok(listing) => format!("octets {}", listing.len()),
             Err(refusal) => refused(refusal),
@@ -45,7 +45,7 @@ fn zeros(lengths: [usize; 7]) -> Parts {
 }
 
 /// No octets in any part but this one.
-fn alone(table: usize, length: usize) -> Parts {
+pub fn alone(table: usize, length: usize) -> Parts {
     let mut lengths = [0; 7];
     lengths[table - 1] = length;
     zeros(lengths)
@@ -80,12 +80,12 @@ const HAY_LISTING: &str = "
 
     68617974696c6573";
 
-fn hay() -> Parts {
+pub fn hay() -> Parts {
     HAY.map(octets_of)
 }
 
 /// The parts of "hay" with one u32 changed.
-fn hay_with(table: usize, at: usize, word: u32) -> Parts {
+pub fn hay_with(table: usize, at: usize, word: u32) -> Parts {
     let mut parts = hay();
     set_u32(&mut parts[table - 1], at, word);
     parts
@@ -189,6 +189,22 @@ fn check_beyond_a_word(tally: &mut Tally) {
     checked("2^32 + 1 octets of tiles", 5, 4_294_967_297, "refused 11 5 0");
 }
 
+/// Every text field: its table, the octets of a row, its place in the row.
+pub const TEXT_FIELDS: [(usize, usize, usize); 12] = [
+    (1, 32, 16),
+    (1, 32, 24),
+    (2, 40, 0),
+    (2, 40, 8),
+    (2, 40, 16),
+    (3, 48, 0),
+    (4, 64, 0),
+    (5, 32, 0),
+    (6, 32, 0),
+    (6, 32, 8),
+    (6, 32, 16),
+    (6, 32, 24),
+];
+
 /// 1.5: texts against the lent names, of which "hay" has eight.
 fn check_texts(tally: &mut Tally) {
     let good = "octets 208";
@@ -202,7 +218,7 @@ fn check_texts(tally: &mut Tally) {
     tally.written("the same rows with one name octet less", &shorter, AMPLE, "refused 7 2 0");
     let mut longer = hay();
     longer[6].push(0xe9);
-    tally.written("and with one more, no UTF-8 (1.11)", &longer, AMPLE, "octets 209");
+    tally.written("and with one more that no text covers (3.1)", &longer, AMPLE, "octets 209");
     let mut nameless = alone(3, 48);
     tally.written("no names: an empty text", &nameless, AMPLE, "octets 112");
     nameless[2][4] = 1;
@@ -212,23 +228,11 @@ fn check_texts(tally: &mut Tally) {
     tally.written("7: the lowest table", &two, AMPLE, "refused 7 5 1");
     set_u32(&mut two[4], 4, 9);
     tally.written("7: the lowest row", &two, AMPLE, "refused 7 5 0");
-    for (table, row, at, want) in [
-        (1, 32, 16, "refused 7 1 2"),
-        (1, 32, 24, "refused 7 1 2"),
-        (2, 40, 0, "refused 7 2 2"),
-        (2, 40, 8, "refused 7 2 2"),
-        (2, 40, 16, "refused 7 2 2"),
-        (3, 48, 0, "refused 7 3 2"),
-        (4, 64, 0, "refused 7 4 2"),
-        (5, 32, 0, "refused 7 5 2"),
-        (6, 32, 0, "refused 7 6 2"),
-        (6, 32, 8, "refused 7 6 2"),
-        (6, 32, 16, "refused 7 6 2"),
-        (6, 32, 24, "refused 7 6 2"),
-    ] {
+    for (table, row, at) in TEXT_FIELDS {
         let mut parts = alone(table, 4 * row);
         set_u32(&mut parts[table - 1], 2 * row + at, 1);
-        tally.written("7: every text field", &parts, AMPLE, want);
+        let want = format!("refused 7 {table} 2");
+        tally.written("7: every text field", &parts, AMPLE, &want);
     }
 }
 
