@@ -1,9 +1,10 @@
 //! The maker against the judge: what the maker knows of its listings, by the
 //! way it made them, the judge must say of them.
 
-use second::calls::{lookup, report, verdict, Verdict};
-use second::generate::{full, generate, good_pack, one_fault, one_span, questions};
-use second::generate::{FULL_KINDS, LIMITS};
+use second::calls::{lookup, put_together, report, verdict, Verdict};
+use second::generate::{full, generate, good_pack, one_texts, questions, OneText};
+use second::generate::{one_fault, one_of_characters, one_span};
+use second::generate::{FULL_KINDS, HOSTILE_KINDS, LIMITS};
 use second::listing::NONE;
 use second::rules::CODES;
 
@@ -37,6 +38,32 @@ fn spans_show_where_they_are_beyond_the_edge() {
         shown[usize::from(shows[0])] += 1;
     }
     assert!(shown[0] > 10_000 && shown[1] > 10_000, "{shown:?}");
+}
+
+#[test]
+fn ill_texts_are_refused_at_their_place_and_no_others_are() {
+    let mut counts = [0; 2];
+    for seed in 0..6_000 {
+        let (listing, place) = one_of_characters(seed);
+        let refused = report(&listing).err().map(|r| (r.number, r.table, r.row));
+        let must = place.map(|(table, row)| (13, table, row));
+        assert_eq!(refused, must, "seed {seed}");
+        counts[usize::from(must.is_some())] += 1;
+    }
+    assert!(counts.iter().all(|&count| count > 2_000), "{counts:?}");
+}
+
+/// The series of texts, each asked of `from_utf8` by itself.
+#[test]
+fn texts_are_refused_where_they_are_not_utf8() {
+    let mut counts = [0; 2];
+    for (number, OneText { parts, text }) in one_texts().enumerate() {
+        let refused = report(&put_together(&parts)).err().map(|r| r.number);
+        let must = std::str::from_utf8(&text).err().map(|_| 13);
+        assert_eq!(refused, must, "text {number}");
+        counts[usize::from(must.is_some())] += 1;
+    }
+    assert!(counts[0] > 300 && counts[1] > 6_000, "{counts:?}");
 }
 
 #[test]
@@ -95,14 +122,16 @@ fn findings_are_in_order() {
 
 #[test]
 fn full_sizes_are_as_they_say() {
-    for kind in FULL_KINDS {
-        let listing = full(kind, 3_000).unwrap_or_default();
-        let tiles = second::listing::read(&listing).map(|l| l.count(5));
-        assert_eq!(tiles, Ok(3_000), "{kind}");
+    for kind in FULL_KINDS.iter().chain(&HOSTILE_KINDS) {
+        for tiles in [0, 1, 500, 3_000, 262_144] {
+            let listing = full(kind, tiles).unwrap_or_default();
+            let count = second::listing::read(&listing).map(|l| l.count(5));
+            assert_eq!(count, Ok(tiles), "{kind}");
+        }
     }
     assert!(full("nothing", 1).is_none());
     let clean = ["sorted", "shuffled", "reversed", "layers", "long-names", "folded", "own-place"];
-    for kind in clean {
+    for kind in clean.iter().chain(&["accents", "accents-shuffled"]) {
         let findings = full(kind, 3_000).map(|listing| report(&listing));
         assert_eq!(findings, Some(Ok(vec![])), "{kind}");
     }
@@ -119,6 +148,7 @@ fn limits_are_at_the_limit() {
         let want = match *name {
             "9,762,881 octets" => Err((2, 0)),
             "a text outside in the last row" => Err((7, 262_143)),
+            "an ill text in the last row" => Err((13, 262_143)),
             name if name.contains("above") => Err((5, 0)),
             _ => Ok(()),
         };

@@ -2,7 +2,7 @@
 
 use second::calls::{size_of, write, Parts};
 use second::cases::{filled, writes, Expected};
-use second::generate::{cut, full, generate_parts, FULL_KINDS, LIMITS};
+use second::generate::{cut, full, generate_parts, FULL_KINDS, HOSTILE_KINDS, LIMITS};
 use second::listing::read;
 
 const SEEDS: std::ops::Range<u64> = 0..1_000;
@@ -25,7 +25,7 @@ fn accepted_listings_write_back_to_the_same_octets() {
     for (name, make) in &LIMITS {
         check_written_back(&make(), name);
     }
-    for kind in FULL_KINDS {
+    for kind in FULL_KINDS.iter().chain(&HOSTILE_KINDS) {
         assert!(check_written_back(&full(kind, 3_000).unwrap_or_default(), kind));
     }
 }

@@ -5,7 +5,7 @@ mod write;
 
 pub use octets::{lookup_call, report_call, verdict_call, write_call};
 pub use octets::{Called, ReportCalled, WriteCalled};
-pub use write::{check_lengths, size_of, write, Parts};
+pub use write::{check_lengths, put_together, size_of, write, Parts};
 
 use crate::listing::{read, Refusal};
 use crate::rules::{code_named, Finding, Judge};

@@ -42,8 +42,9 @@ pub fn size_of(parts: &Parts) -> usize {
     HEADER_SIZE + parts.iter().map(Vec::len).sum::<usize>()
 }
 
-/// The header, its counts and offsets by the lengths, and then the parts.
-fn put_together(parts: &Parts) -> Vec<u8> {
+/// The header, its counts and offsets by the lengths, and then the parts, which
+/// are not looked at.
+pub fn put_together(parts: &Parts) -> Vec<u8> {
     let mut header = vec![VERSION, size_of(parts) as u32];
     let mut offset = HEADER_SIZE;
     for (part, shape) in parts.iter().zip(&SHAPES) {

@@ -45,6 +45,18 @@ pub fn calls(seed: u64, octets: &[u8]) -> Vec<Call> {
     choice.calls
 }
 
+/// Calls that come to little beside reading the listing, made from a seed: for
+/// listings of more text than can be judged, and for those that are many.
+pub fn reader_calls(seed: u64) -> Vec<Call> {
+    let mut choice = Choice { random: Random::new(seed), tiles: 0, calls: Vec::new() };
+    let question = Question { contents_row: u32::MAX, zoom: 0, column: 0, row: 0 };
+    choice.call(Asked::Lookup(question), 0, 0, LOOKUP_ANSWER);
+    // 171 looks at the contents alone; 542 is no code.
+    choice.call(Asked::Verdict(171), 0, 0, VERDICT_ANSWER);
+    choice.call(Asked::Verdict(542), 0, 0, VERDICT_ANSWER);
+    choice.calls
+}
+
 struct Choice {
     random: Random,
     tiles: usize,

@@ -6,9 +6,9 @@ mod choice;
 mod stream;
 mod writes;
 
-pub use choice::calls;
-pub use stream::{write_limits, write_seeds};
-pub use writes::{writes, WriteCall, WRITE_ANSWER};
+pub use choice::{calls, reader_calls};
+pub use stream::{write_limits, write_seeds, write_texts};
+pub use writes::{few_writes, writes, WriteCall, WRITE_ANSWER};
 
 use crate::calls::{lookup_call, report_call, verdict_call, Called, Question};
 use crate::listing::read;

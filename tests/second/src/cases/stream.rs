@@ -27,9 +27,10 @@
 
 use std::io::{Result, Write};
 
-use super::{calls, writes, Asked, Call, Expected, WriteCall};
-use crate::calls::{Parts, Question};
-use crate::generate::{cut, full, generate, generate_parts, FULL_KINDS, LIMITS};
+use super::{calls, few_writes, reader_calls, writes, Asked, Call, Expected, WriteCall};
+use crate::calls::{put_together, Parts, Question};
+use crate::generate::{cut, full, generate, generate_parts, one_texts};
+use crate::generate::{FULL_KINDS, HOSTILE_KINDS, LIMITS};
 use crate::listing::layout::TILES;
 use crate::listing::read;
 
@@ -52,9 +53,13 @@ pub fn write_seeds(out: impl Write, first: u64, count: u64) -> Result<()> {
 /// The most tiles of a full listing here: the index works at this size as it
 /// does at the limit, and all the kinds take a quarter of the time.
 const TILES_OF_A_FULL_LISTING: usize = 32_768;
+/// The same where each tile's name is some thousand octets: a report goes over
+/// all of them, and without `work` over those of every two tiles.
+const TILES_OF_A_HOSTILE_LISTING: usize = 500;
 
 /// The listings at the limits and the full ones, with their calls, as far as
-/// they have no more tiles than these; and each cut into its parts.
+/// they have no more tiles than these; and each cut into its parts. The hostile
+/// ones are judged at a small size and no more than read at their full one.
 pub fn write_limits(out: impl Write, most_tiles: usize) -> Result<()> {
     let mut stream = Stream::begun(out)?;
     for (number, (_, make)) in LIMITS.iter().enumerate() {
@@ -68,6 +73,23 @@ pub fn write_limits(out: impl Write, most_tiles: usize) -> Result<()> {
     for kind in FULL_KINDS {
         let listing = full(kind, tiles).unwrap_or_default();
         stream.listing_and_parts(&format!("full {kind} {tiles}"), tiles as u64, &listing)?;
+    }
+    for kind in HOSTILE_KINDS {
+        let tiles = most_tiles.min(TILES_OF_A_HOSTILE_LISTING);
+        let listing = full(kind, tiles).unwrap_or_default();
+        stream.listing_and_parts(&format!("full {kind} {tiles}"), tiles as u64, &listing)?;
+        let listing = full(kind, most_tiles).unwrap_or_default();
+        stream.reads(&format!("full {kind} {most_tiles}"), most_tiles as u64, &listing)?;
+    }
+    stream.ended()
+}
+
+/// The series of texts: each listing read, and written from its parts.
+pub fn write_texts(out: impl Write) -> Result<()> {
+    let mut stream = Stream::begun(out)?;
+    for (number, text) in one_texts().enumerate() {
+        let listing = put_together(&text.parts);
+        stream.reads(&format!("text {number}"), number as u64, &listing)?;
     }
     stream.ended()
 }
@@ -115,6 +137,13 @@ impl<W: Write> Stream<W> {
         self.listing(origin, listing, &calls(seed, listing))?;
         let parts = cut(listing);
         self.parts(&format!("{origin} | second cut"), &parts, &writes(seed, &parts))
+    }
+
+    /// A listing and its parts, with the calls that do little but read it.
+    fn reads(&mut self, origin: &str, seed: u64, listing: &[u8]) -> Result<()> {
+        self.listing(origin, listing, &reader_calls(seed))?;
+        let parts = cut(listing);
+        self.parts(&format!("{origin} | second cut"), &parts, &few_writes(seed, &parts))
     }
 
     fn call(&mut self, call: &Call, listing: &[u8]) -> Result<()> {

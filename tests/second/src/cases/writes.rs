@@ -49,6 +49,13 @@ pub fn writes(seed: u64, parts: &Parts) -> Vec<WriteCall> {
     calls
 }
 
+/// Two writes with some parts: with room for the listing, and without.
+pub fn few_writes(seed: u64, parts: &Parts) -> Vec<WriteCall> {
+    let mut random = Random::new(seed);
+    let mut call = |listing| WriteCall { listing, answer: WRITE_ANSWER, fill: random.word() as u8 };
+    vec![call(size_of(parts)), call(0)]
+}
+
 /// Buffers for a listing of so many octets, on both sides of each line.
 fn rooms(random: &mut Random, exact: usize) -> Vec<usize> {
     let mut rooms = vec![exact, exact - 1, exact + 1 + random.below(200)];

@@ -1,19 +1,22 @@
 //! What the made listings reach: every code found and not found, both ways to
-//! pass 451 and 452, every refusal given and not given, every kind of listing;
-//! and what the made parts reach. And how long judging takes.
+//! pass 451 and 452, every refusal given and not given, texts on both sides of
+//! 13, every kind of listing; and what the made parts reach. And how long judging
+//! takes.
 
 mod spans;
+mod utf8;
 mod writes;
 
 use std::fmt;
 use std::time::Instant;
 
-use crate::calls::{lookup, report, verdict, Question};
-use crate::generate::PartsCase;
-use crate::generate::{cut, generate, generate_parts, kind_names, questions, LIMITS};
-use crate::listing::{read, NONE};
+use crate::calls::{lookup, put_together, report, verdict, Question};
+use crate::generate::{cut, generate, generate_parts, kind_names, one_texts, questions};
+use crate::generate::{PartsCase, LIMITS};
+use crate::listing::{read, Refusal, NONE};
 use crate::rules::{Finding, CODES};
 use spans::Spans;
+use utf8::Utf8;
 use writes::Writes;
 
 /// One line of the table: how many have what it tells of, and how many lack it.
@@ -49,19 +52,20 @@ pub struct Table {
     spans: Spans,
     untestable: Vec<Line>,
     without_row: Vec<Line>,
-    refusals: Vec<Line>,
+    refusals: Vec<(u32, Line)>,
+    utf8: Utf8,
     lookups: Line,
     kinds: Vec<Line>,
     writes: Writes,
 }
 
 const CODES_WITHOUT_ROW: [u32; 3] = [111, 112, 113];
-/// Refusals 1 to 8 are a listing's; 9 and 10 are a call's. The writer's have
-/// lines of their own.
-const REFUSALS: u32 = 10;
+/// Those of a listing and those of a call. The writer's have lines of their own.
+const OF_A_LISTING: [u32; 9] = [1, 2, 3, 4, 5, 6, 7, 8, 13];
+const OF_A_CALL: [u32; 2] = [9, 10];
 
-/// Makes the listings and parts of so many seeds and the listings at the limits,
-/// and counts.
+/// Makes the listings and parts of so many seeds, the listings at the limits and
+/// the series of texts, and counts.
 pub fn table(first: u64, count: u64) -> Table {
     let mut table = Table::new();
     for seed in first..first.saturating_add(count) {
@@ -69,8 +73,7 @@ pub fn table(first: u64, count: u64) -> Table {
         table.count_listing(case.kind, &case.listing);
         let questions = questions(seed, &case.listing);
         for code in questions.codes {
-            let refused = verdict(&case.listing, code).err();
-            table.refusals[8].count(refused.is_some_and(|r| r.number == 9));
+            table.count_verdict(&case.listing, code);
         }
         for question in questions.lookups {
             table.count_lookup(&case.listing, question);
@@ -82,6 +85,10 @@ pub fn table(first: u64, count: u64) -> Table {
         table.count_listing(kind, &listing);
         let parts = cut(&listing);
         table.writes.count(number, &PartsCase { kind, parts, listing: Some(listing) });
+    }
+    for text in one_texts() {
+        let listing = put_together(&text.parts);
+        table.utf8.count(&listing, read(&listing).err());
     }
     table
 }
@@ -102,7 +109,12 @@ impl Table {
                 .iter()
                 .map(|code| Line::new(format!("code {code} without a row")))
                 .collect(),
-            refusals: (1..=REFUSALS).map(|number| Line::new(format!("refusal {number}"))).collect(),
+            refusals: OF_A_LISTING
+                .into_iter()
+                .chain(OF_A_CALL)
+                .map(|number| (number, Line::new(format!("refusal {number}"))))
+                .collect(),
+            utf8: Utf8::new(),
             lookups: Line::new("lookups with a tile"),
             kinds: kind_names().chain(limits).map(kind_line).collect(),
             writes: Writes::new(),
@@ -116,10 +128,11 @@ impl Table {
             line.have += 1;
         }
         let outcome = report(octets);
-        let number = outcome.as_ref().err().map(|refusal| refusal.number);
-        for (refusal, line) in (1..=8).zip(&mut self.refusals) {
-            line.count(number == Some(refusal));
+        let refusal = outcome.as_ref().err().copied();
+        for number in OF_A_LISTING {
+            self.count_refusal(number, refusal);
         }
+        self.utf8.count(octets, refusal);
         if let Ok(findings) = outcome {
             self.count_findings(octets, &findings);
         }
@@ -146,10 +159,27 @@ impl Table {
         self.spans.count(listing);
     }
 
+    fn count_refusal(&mut self, number: u32, refusal: Option<Refusal>) {
+        let line = self.refusals.iter_mut().find(|(of, _)| *of == number);
+        if let Some((_, line)) = line {
+            line.count(refusal.is_some_and(|refusal| refusal.number == number));
+        }
+    }
+
+    fn count_verdict(&mut self, octets: &[u8], code: u32) {
+        let refused = verdict(octets, code).err();
+        self.count_refusal(9, refused);
+        if is_refused_13(octets) {
+            self.utf8.count_verdict(refused);
+        }
+    }
+
     fn count_lookup(&mut self, octets: &[u8], question: Question) {
         let answer = lookup(octets, question);
-        let refused = answer.err().map(|refusal| refusal.number);
-        self.refusals[9].count(refused == Some(10));
+        self.count_refusal(10, answer.err());
+        if is_refused_13(octets) {
+            self.utf8.count_lookup(octets, question);
+        }
         if let Ok(row) = answer {
             self.lookups.count(row.is_some());
         }
@@ -157,7 +187,8 @@ impl Table {
 
     fn lines(&self) -> impl Iterator<Item = &Line> {
         let counted = self.codes.iter().chain(self.spans.lines()).chain(&self.without_row);
-        let counted = counted.chain(&self.untestable).chain(&self.refusals);
+        let refusals = self.refusals.iter().map(|(_, line)| line).chain(self.utf8.lines());
+        let counted = counted.chain(&self.untestable).chain(refusals);
         counted.chain([&self.lookups]).chain(&self.kinds).chain(self.writes.lines())
     }
 
@@ -166,6 +197,10 @@ impl Table {
         let empty = self.lines().filter(|line| line.is_empty());
         empty.map(|line| line.name.as_str()).collect()
     }
+}
+
+fn is_refused_13(octets: &[u8]) -> bool {
+    read(octets).is_err_and(|refusal| refusal.number == 13)
 }
 
 fn kind_line(name: &str) -> Line {

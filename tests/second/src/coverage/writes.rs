@@ -7,14 +7,14 @@ use crate::calls::{size_of, write, Parts};
 use crate::cases::{writes, WriteCall, WRITE_ANSWER};
 use crate::generate::{kind_names, parts_kind_names, PartsCase};
 use crate::listing::layout::*;
-use crate::listing::{check_contents, check_texts, Listing, Refusal};
+use crate::listing::{check_contents, check_texts, check_utf8, Listing, Refusal};
 
 /// The writer's reasons in their order.
-const ORDER: [u32; 5] = [11, 5, 7, 8, 12];
+const ORDER: [u32; 6] = [11, 5, 7, 8, 13, 12];
 
 /// Kinds of listings of which few or none are accepted, so that they need not
 /// be among those written back.
-const MOSTLY_REFUSED: [&str; 15] = [
+const MOSTLY_REFUSED: [&str; 17] = [
     "short",
     "truncated",
     "extended",
@@ -30,6 +30,8 @@ const MOSTLY_REFUSED: [&str; 15] = [
     "nearly NULL",
     "contents flags",
     "several refusals",
+    "ill characters",
+    "refusal 13 and others",
 ];
 
 /// A write, why it is refused, if it is, and what is there in its parts.
@@ -47,6 +49,9 @@ struct Known {
     faults: Vec<u32>,
     ragged: usize,
     texts: Vec<Text>,
+    /// Are the names well-formed UTF-8, all together?
+    is_utf8: bool,
+    is_ascii: bool,
 }
 
 /// What a text field may hold that is at the edge.
@@ -74,10 +79,18 @@ impl Known {
             (is_above, 5),
             (check_texts(&listing).is_err(), 7),
             (check_contents(&listing).is_err(), 8),
+            (check_utf8(&listing).is_err(), 13),
         ];
         let faults = faults.iter().filter(|(is_there, _)| *is_there).map(|(_, number)| *number);
-        let texts = texts(&listing);
-        Known { size: size_of(parts), counts, faults: faults.collect(), ragged, texts }
+        Known {
+            size: size_of(parts),
+            counts,
+            faults: faults.collect(),
+            ragged,
+            texts: texts(&listing),
+            is_utf8: std::str::from_utf8(listing.names()).is_ok(),
+            is_ascii: listing.names().is_ascii(),
+        }
     }
 }
 
@@ -172,7 +185,7 @@ impl Writes {
             self.add(format!("refusal 5 at table {table}"), move |s| s.is_refused_at(5, table));
         }
         for table in 1..NAMES {
-            for number in [11, 7] {
+            for number in [11, 7, 13] {
                 let name = format!("refusal {number} at table {table}");
                 self.add(name, move |seen| seen.is_refused_at(number, table));
             }
@@ -210,6 +223,13 @@ impl Writes {
         for (name, text) in inside {
             self.add(name, move |seen| seen.is_written() && seen.has_text(text));
         }
+        self.add("names beyond ASCII", |seen| {
+            seen.is_written() && seen.known.is_utf8 && !seen.known.is_ascii
+        });
+        self.add("names with stray octets", |seen| seen.is_written() && !seen.known.is_utf8);
+        self.add("13, and all names together well-formed", |seen| {
+            seen.is_refused(13) && seen.known.is_utf8
+        });
         let outside = [
             ("a text that ends one past", Text::EndsOnePast),
             ("NULL where not allowed", Text::NullElsewhere),

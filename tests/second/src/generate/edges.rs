@@ -13,14 +13,18 @@ pub fn sound(random: &mut Random) -> Draft {
     }
 }
 
-/// Any text field of any row of a table, if the table has rows.
-fn any_text<'d>(random: &mut Random, draft: &'d mut Draft, table: usize) -> Option<&'d mut Span> {
+/// Any text field of any row of a table, if the table has rows, and the row.
+pub fn any_text<'d>(
+    random: &mut Random,
+    draft: &'d mut Draft,
+    table: usize,
+) -> Option<(usize, &'d mut Span)> {
     let count = draft.counts()[table - 1];
     if count == 0 {
         return None;
     }
     let (row, field) = (random.below(count), random.below(4));
-    Some(match (table, field) {
+    let text = match (table, field) {
         (1, 0 | 1) => &mut draft.references[row].organization,
         (1, _) => &mut draft.references[row].definition,
         (2, 0 | 1) => &mut draft.contents[row].table_name,
@@ -33,7 +37,8 @@ fn any_text<'d>(random: &mut Random, draft: &'d mut Draft, table: usize) -> Opti
         (_, 1) => &mut draft.extensions[row].column_name,
         (_, 2) => &mut draft.extensions[row].extension_name,
         (_, _) => &mut draft.extensions[row].scope,
-    })
+    };
+    Some((row, text))
 }
 
 /// A text at the edge of a table of names with this many octets.
@@ -58,12 +63,12 @@ pub fn edge_text(random: &mut Random, end: usize) -> Span {
     random.pick(&texts)
 }
 
-fn set_edge_texts(random: &mut Random, draft: &mut Draft, most: usize) {
+pub fn set_edge_texts(random: &mut Random, draft: &mut Draft, most: usize) {
     let end = draft.names.len();
     for _ in 0..1 + random.below(most) {
         let table = 1 + random.below(6);
         let text = edge_text(random, end);
-        if let Some(field) = any_text(random, draft, table) {
+        if let Some((_, field)) = any_text(random, draft, table) {
             *field = text;
         }
     }
@@ -84,7 +89,7 @@ pub fn nulls(random: &mut Random) -> Vec<u8> {
     let mut draft = sound(random);
     for _ in 0..1 + random.below(3) {
         let table = random.pick(&[1, 2, 3, 4, 5, 6, 6, 6, 6, 6]);
-        if let Some(field) = any_text(random, &mut draft, table) {
+        if let Some((_, field)) = any_text(random, &mut draft, table) {
             *field = NULL;
         }
     }
@@ -130,7 +135,7 @@ pub fn edge_flags(random: &mut Random) -> (i64, u32, u32) {
     ])
 }
 
-fn set_flags(random: &mut Random, draft: &mut Draft) {
+pub fn set_flags(random: &mut Random, draft: &mut Draft) {
     for _ in 0..1 + random.below(3) {
         if draft.contents.is_empty() {
             return;

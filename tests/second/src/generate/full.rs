@@ -1,10 +1,10 @@
 //! Listings of full size, for speed.
 
-use super::Random;
+use super::{hostile, Random};
 use crate::make::{Draft, MatrixRow, Span, TileRow};
 
-/// The kinds that [`full`] makes.
-pub const FULL_KINDS: [&str; 11] = [
+/// The kinds that [`full`] makes, but for those of [`hostile`].
+pub const FULL_KINDS: [&str; 13] = [
     "sorted",
     "shuffled",
     "pyramids",
@@ -16,6 +16,8 @@ pub const FULL_KINDS: [&str; 11] = [
     "folded",
     "one-name",
     "no-contents",
+    "accents",
+    "accents-shuffled",
 ];
 
 const MOMENT: &str = "2024-02-29T00:00:00.000Z";
@@ -31,7 +33,9 @@ const MOMENT: &str = "2024-02-29T00:00:00.000Z";
 /// * `long-names`: as `layers`, with names of 39 octets that differ inside;
 /// * `folded`: 32,768 columns 2^32 - 31 apart, in one row after the other;
 /// * `one-name`: 4,096 matrices of one name, each finer than the one before;
-/// * `no-contents`: as `sorted`, without contents.
+/// * `no-contents`: as `sorted`, without contents;
+/// * `accents`, `accents-shuffled`: as `sorted` and `shuffled`, each name with
+///   letters beyond ASCII.
 pub fn full(kind: &str, tiles: usize) -> Option<Vec<u8>> {
     let mut random = Random::new(tiles as u64);
     let mut draft = match kind {
@@ -39,15 +43,16 @@ pub fn full(kind: &str, tiles: usize) -> Option<Vec<u8>> {
             layered(256, 16, tiles, short_name)
         }
         "long-names" => layered(256, 16, tiles, long_name),
+        "accents" | "accents-shuffled" => layered(256, 16, tiles, accented_name),
         "pyramids" => layered(3, 12, tiles.div_ceil(2), short_name),
         "one-address" => one_address(tiles),
         "own-place" => own_place(tiles),
         "folded" => folded(tiles),
         "one-name" => one_name(tiles),
-        _ => return None,
+        _ => hostile(kind, tiles)?,
     };
     match kind {
-        "shuffled" => random.shuffle(&mut draft.tiles),
+        "shuffled" | "accents-shuffled" => random.shuffle(&mut draft.tiles),
         "reversed" => draft.tiles.reverse(),
         "no-contents" => draft.contents.clear(),
         // A stable sort: within an address the layers keep their order.
@@ -103,6 +108,11 @@ fn tile(table_name: Span, number: usize) -> TileRow {
 
 fn short_name(layer: usize) -> String {
     format!("layer_{layer:03}_tiles")
+}
+
+/// As many octets as a short name has.
+fn accented_name(layer: usize) -> String {
+    format!("h\u{f6}he_{layer:03}_t\u{e4}le")
 }
 
 /// Names that differ neither in their first, nor their middle, nor their last

@@ -9,7 +9,7 @@ use crate::make::{set_count, set_true_length, span, Draft};
 pub type Limit = (&'static str, fn() -> Vec<u8>);
 
 /// The listings at the limits, by name.
-pub static LIMITS: [Limit; 17] = [
+pub static LIMITS: [Limit; 19] = [
     ("table 1 at its most", || filled(1, 0)),
     ("table 2 at its most", || filled(2, 0)),
     ("table 3 at its most", || filled(3, 0)),
@@ -27,6 +27,8 @@ pub static LIMITS: [Limit; 17] = [
     ("9,762,880 octets", longest),
     ("9,762,881 octets", too_long),
     ("a text outside in the last row", outside_at_last),
+    ("an ill text in the last row", ill_at_last),
+    ("a text of all the most names", all_names),
 ];
 
 /// A good pack with one table filled up to its most and so many rows more.
@@ -92,5 +94,26 @@ fn outside_at_last() -> Vec<u8> {
     if let Some(tile) = draft.tiles.last_mut() {
         tile.table_name = span(end, 1);
     }
+    draft.listing()
+}
+
+/// The name of the last of the most tiles is an octet that is no character.
+fn ill_at_last() -> Vec<u8> {
+    let mut draft = packs::good(&mut Random::new(6));
+    fill(&mut draft, 5, SHAPES[4].most as usize);
+    let ill = draft.text_apart([0xe9]);
+    if let Some(tile) = draft.tiles.last_mut() {
+        tile.table_name = ill;
+    }
+    draft.listing()
+}
+
+/// A definition of 1,048,576 octets, its last character one of four.
+fn all_names() -> Vec<u8> {
+    let mut draft = packs::good(&mut Random::new(7));
+    let most = SHAPES[6].most as usize;
+    draft.names.resize(most - 4, b'n');
+    draft.text_apart("\u{1f404}");
+    draft.references[0].definition = span(0, most);
     draft.listing()
 }

@@ -6,6 +6,7 @@ mod damage;
 mod dense;
 mod edges;
 mod full;
+mod hostile;
 mod limits;
 mod packs;
 mod parts;
@@ -15,14 +16,19 @@ mod random;
 mod sizes;
 mod small;
 mod spans;
+mod texts;
+mod utf8;
 
 pub use full::{full, FULL_KINDS};
+pub use hostile::{hostile, HOSTILE_KINDS};
 pub use limits::LIMITS;
 pub use parts::{cut, generate_parts, parts_kind_names, PartsCase};
 pub use questions::{questions, Questions};
 pub use random::Random;
 #[cfg(test)]
 pub(crate) use spans::wild_axis;
+pub use texts::{one_texts, OneText};
+pub(crate) use utf8::CHARACTERS;
 
 use crate::make::Draft;
 
@@ -43,7 +49,7 @@ const fn kind(name: &'static str, make: fn(&mut Random) -> Vec<u8>) -> Kind {
 }
 
 /// The kinds that are not planted faults.
-static KINDS: [Kind; 32] = [
+static KINDS: [Kind; 36] = [
     kind("good pack", |random| packs::good(random).listing()),
     kind("small domain", |r| small::any(r).listing()),
     kind("small domain, tiles", |r| small::tiles(r).listing()),
@@ -72,6 +78,10 @@ static KINDS: [Kind; 32] = [
     kind("nearly NULL", edges::nearly_null),
     kind("contents flags", edges::contents_flags),
     kind("several refusals", edges::several_refusals),
+    kind("characters", |r| utf8::characters(r).draft.listing()),
+    kind("ill characters", |r| utf8::ill_characters(r).draft.listing()),
+    kind("around multiples of octets", |r| utf8::around_multiples(r).draft.listing()),
+    kind("refusal 13 and others", utf8::with_7_and_8),
     kind("room for findings", sizes::room_for_findings),
     kind("longest for the desk", sizes::longest_for_the_desk),
     kind("mid-size", sizes::mid_size),
@@ -116,6 +126,14 @@ pub fn one_span(seed: u64) -> (Vec<u8>, [bool; 2]) {
     let mut draft = Draft::default();
     dense::add_span(&mut draft, "s", edges.map(|edge| edge.axis));
     (draft.listing(), edges.map(|edge| edge.shows))
+}
+
+/// A listing with characters at the edge of being ones, and what the maker knows
+/// of it: the table and the row for which 13 must refuse it, if it must.
+pub fn one_of_characters(seed: u64) -> (Vec<u8>, Option<(u32, u32)>) {
+    let makers = [utf8::characters, utf8::ill_characters, utf8::around_multiples];
+    let utf8::Known { draft, place } = makers[(seed % 3) as usize](&mut Random::new(seed));
+    (draft.listing(), place)
 }
 
 /// A good pack.

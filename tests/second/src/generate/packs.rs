@@ -6,7 +6,8 @@ use super::spans::last_size;
 use super::Random;
 use crate::make::{Draft, MatrixRow, SetRow, Span, TileRow};
 
-const LAYERS: [&str; 6] = ["valley", "hill", "Hill", "lake_2", "", "moor tiles"];
+const LAYERS: [&str; 8] =
+    ["valley", "hill", "Hill", "lake_2", "", "moor tiles", "vall\u{e9}e", "\u{5c71}\u{1f404}"];
 
 const MOMENTS: [&str; 5] = [
     "2024-02-29T00:00:00.000Z",

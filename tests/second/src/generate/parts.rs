@@ -2,7 +2,7 @@
 //! damaged, and changed so that each reason of the writer shows, alone and
 //! beside the others.
 
-use super::{edges, generate, Random};
+use super::{edges, generate, utf8, Random};
 use crate::calls::Parts;
 use crate::listing::layout::*;
 use crate::make::{set_u32, Span};
@@ -18,7 +18,7 @@ pub struct PartsCase {
 type Change = fn(&mut Random, &mut Parts);
 
 /// The kinds that are changed: what is done to the parts of a sound listing.
-static CHANGED: [(&str, &[Change]); 18] = [
+static CHANGED: [(&str, &[Change]); 24] = [
     ("no octets in any part", &[without_octets]),
     ("some parts empty", &[emptied]),
     ("a ragged part", &[ragged]),
@@ -30,6 +30,7 @@ static CHANGED: [(&str, &[Change]); 18] = [
     ("texts at the edge", &[text_edges]),
     ("names of another length", &[text_edges, other_names]),
     ("flags at the edge", &[flag_edges]),
+    ("ill texts", &[ill_texts]),
     ("11 and 5", &[above_most, ragged]),
     ("11 and 7", &[text_edges, ragged]),
     ("11 and 8", &[flag_edges, ragged]),
@@ -37,6 +38,11 @@ static CHANGED: [(&str, &[Change]); 18] = [
     ("5 and 8", &[flag_edges, above_most]),
     ("7 and 8", &[flag_edges, text_edges]),
     ("11, 5, 7 and 8", &[flag_edges, text_edges, above_most, ragged]),
+    ("11 and 13", &[ill_texts, ragged]),
+    ("5 and 13", &[ill_texts, above_most]),
+    ("7 and 13", &[ill_texts, text_edges]),
+    ("8 and 13", &[ill_texts, flag_edges]),
+    ("11, 5, 7, 8 and 13", &[ill_texts, flag_edges, text_edges, above_most, ragged]),
 ];
 
 /// The names of the changed kinds. The others are those of the listings.
@@ -141,18 +147,31 @@ fn any_row(random: &mut Random, part: &[u8], row_size: usize) -> Option<usize> {
     Some(random.pick(&[0, last, any]))
 }
 
+/// Puts a text into any text field of a table, if it has rows.
+fn put_text(random: &mut Random, parts: &mut Parts, Span { start, length }: Span) {
+    let table = 1 + random.below(NAMES - 1);
+    let (part, shape) = (&mut parts[table - 1], &SHAPES[table - 1]);
+    let at = random.pick(shape.texts).at;
+    if let Some(row) = any_row(random, part, shape.row_size) {
+        set_u32(part, row * shape.row_size + at, start);
+        set_u32(part, row * shape.row_size + at + 4, length);
+    }
+}
+
 /// Some texts at the edge of the names: in, out, and NULL.
 fn text_edges(random: &mut Random, parts: &mut Parts) {
     let end = parts[NAMES - 1].len();
     for _ in 0..1 + random.below(3) {
-        let table = 1 + random.below(NAMES - 1);
-        let (part, shape) = (&mut parts[table - 1], &SHAPES[table - 1]);
-        let Span { start, length } = edges::edge_text(random, end);
-        let at = random.pick(shape.texts).at;
-        if let Some(row) = any_row(random, part, shape.row_size) {
-            set_u32(part, row * shape.row_size + at, start);
-            set_u32(part, row * shape.row_size + at + 4, length);
-        }
+        let text = edges::edge_text(random, end);
+        put_text(random, parts, text);
+    }
+}
+
+/// Some texts that are not well-formed, of octets that are added to the names.
+fn ill_texts(random: &mut Random, parts: &mut Parts) {
+    for _ in 0..1 + random.below(3) {
+        let text = utf8::ill_at_end(random, &mut parts[NAMES - 1]);
+        put_text(random, parts, text);
     }
 }
 
@@ -160,7 +179,7 @@ fn text_edges(random: &mut Random, parts: &mut Parts) {
 fn other_names(random: &mut Random, parts: &mut Parts) {
     let names = &mut parts[NAMES - 1];
     let length = (names.len() + random.pick(&[1, 2, 40])).saturating_sub(random.pick(&[0, 3, 5]));
-    names.resize(length, 0xe9);
+    names.resize(length, random.pick(&[b'e', b'e', 0xe9]));
 }
 
 /// Some contents rows with flags, spares and ids, good and bad.

@@ -5,7 +5,7 @@ use crate::make::{span, ContentsRow, Draft, ExtensionRow, MatrixRow, ReferenceRo
 use crate::make::{SetRow, Span, TileRow, NULL};
 
 /// Few names, some of them parts of others, some stored twice.
-const NAMES: [&str; 7] = ["", "a", "b", "ab", "A", "a", "b"];
+const NAMES: [&str; 8] = ["", "a", "b", "ab", "A", "a", "b", "\u{e9}"];
 
 /// Sizes that are often near one another, half of one another, or no sizes.
 fn pixel(random: &mut Random) -> f64 {
@@ -231,7 +231,12 @@ pub fn dates(random: &mut Random) -> Draft {
         let mut text = moment(random);
         if random.once_in(3) {
             let at = random.below(text.len());
-            text[at] = random.pick(b"0129/:-T tZz.\x00\xff");
+            text[at] = random.pick(b"0129/:-T tZz.\x00\x7f");
+        }
+        if random.once_in(20) {
+            // A digit of two octets for two of one: 24 octets, and no moment.
+            let at = random.below(text.len() - 1);
+            text[at..at + 2].copy_from_slice("\u{660}".as_bytes());
         }
         match random.below(12) {
             0 => text.truncate(random.below(25)),
@@ -269,18 +274,22 @@ fn moment(random: &mut Random) -> Vec<u8> {
         .into_bytes()
 }
 
-/// Names that are any parts of a few octets: equal at different places, one
+/// Names that are any parts of a few letters: equal at different places, one
 /// the beginning of another, empty at the very end.
 pub fn overlapping(random: &mut Random) -> Draft {
     let mut domain = Domain::new(random);
-    let start = domain.draft.names.len();
-    let letters: Vec<u8> = (0..2 + random.below(9)).map(|_| random.pick(b"ab")).collect();
-    domain.draft.names.extend_from_slice(&letters);
+    let alphabet = random.pick(&[["a", "b"], ["a", "\u{e9}"], ["\u{e8}", "\u{e9}"]]);
+    // The places between the letters.
+    let mut places = vec![domain.draft.names.len()];
+    for _ in 0..2 + random.below(9) {
+        domain.draft.text_apart(random.pick(&alphabet));
+        places.push(domain.draft.names.len());
+    }
     domain.names = (0..12)
         .map(|_| {
-            let from = random.below(letters.len() + 1);
-            let length = random.below(letters.len() - from + 1).min(3);
-            span(start + from, length)
+            let from = random.below(places.len());
+            let count = random.below(places.len() - from).min(3);
+            span(places[from], places[from + count] - places[from])
         })
         .collect();
     let mut draft = domain.filled(random, [2, 6, 6, 16, 40, 6]);
