@@ -37,6 +37,8 @@ pub fn samples() -> Vec<Sample> {
         sample("many-kinds", many_kinds(), MANY_KINDS),
         sample("refused-version", version_2(), "refused 3 0 0\n"),
         sample("text-outside", text_outside(), "refused 7 5 3\n"),
+        sample("named-in-utf-8", pack("vall\u{e9}e").listing(), "total 0\n"),
+        sample("named-in-latin-1", named_in_latin_1(), "refused 13 2 0\n"),
         sample("many-findings", many_findings(), &many_findings_printed()),
         sample("longest", filled_up(65_536), "total 0\n"),
         sample("oversize", filled_up(65_537), "oversize\n"),
@@ -51,23 +53,28 @@ finding 171 - -
 total 4
 ";
 
-/// A valley's pack without findings: levels 0 to 2 over a square of 1024.
+/// A valley's pack without findings.
 fn valley() -> Draft {
+    pack("valley")
+}
+
+/// A pack of this name: levels 0 to 2 over a square of 1024.
+fn pack(name: &str) -> Draft {
     let mut draft = Draft::default();
     draft.reference(4326, "EPSG", 4326, "GEOGCS[\"WGS 84\"]");
     draft.reference(-1, "NONE", -1, "undefined");
     draft.reference(0, "NONE", 0, "undefined");
-    draft.content("valley", "tiles", "2024-02-29T00:00:00.000Z", Some(4326));
-    draft.set("valley", 4326, [0.0, 0.0, 1024.0, 1024.0]);
-    draft.matrix("valley", 0, 1, 4.0);
-    draft.matrix("valley", 1, 2, 2.0);
-    draft.matrix("valley", 2, 4, 1.0);
-    draft.tile("valley", 0, 0, 0);
-    draft.tile("valley", 1, 0, 0);
-    draft.tile("valley", 1, 1, 0);
-    draft.tile("valley", 1, 0, 1);
-    draft.tile("valley", 1, 1, 1);
-    draft.extension(Some("valley"), Some("tile_data"), "gpkg_webp", "read-write");
+    draft.content(name, "tiles", "2024-02-29T00:00:00.000Z", Some(4326));
+    draft.set(name, 4326, [0.0, 0.0, 1024.0, 1024.0]);
+    draft.matrix(name, 0, 1, 4.0);
+    draft.matrix(name, 1, 2, 2.0);
+    draft.matrix(name, 2, 4, 1.0);
+    draft.tile(name, 0, 0, 0);
+    draft.tile(name, 1, 0, 0);
+    draft.tile(name, 1, 1, 0);
+    draft.tile(name, 1, 0, 1);
+    draft.tile(name, 1, 1, 1);
+    draft.extension(Some(name), Some("tile_data"), "gpkg_webp", "read-write");
     draft
 }
 
@@ -159,6 +166,15 @@ fn version_2() -> Vec<u8> {
 fn text_outside() -> Vec<u8> {
     let mut draft = valley();
     draft.tiles[3].table_name.start = draft.names.len() as u32 - 5;
+    draft.listing()
+}
+
+/// A name in Latin-1, which no draft can be told: its one octet takes the place
+/// of another that is nowhere else in the names.
+fn named_in_latin_1() -> Vec<u8> {
+    let mut draft = pack("vall?e");
+    let octets = draft.names.iter_mut().filter(|octet| **octet == b'?');
+    octets.for_each(|octet| *octet = 0xe9);
     draft.listing()
 }
 
