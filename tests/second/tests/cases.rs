@@ -7,7 +7,7 @@ use second::generate::{generate, generate_parts};
 use second::listing::read;
 use second::rules::CODES;
 
-const SEEDS: std::ops::Range<u64> = 0..136;
+const SEEDS: std::ops::Range<u64> = 0..144;
 const FULL_WORK: usize = 2 << 20;
 
 fn cases() -> impl Iterator<Item = (u64, Vec<u8>, Vec<Call>)> {
@@ -91,16 +91,16 @@ fn work_never_changes_what_is_expected() {
 fn a_stream_depends_on_its_seeds_alone_and_ends_with_its_counts() {
     let written = || {
         let mut octets = Vec::new();
-        write_seeds(&mut octets, 7, 68).map(|()| octets).unwrap_or_default()
+        write_seeds(&mut octets, 7, 72).map(|()| octets).unwrap_or_default()
     };
     let stream = written();
     assert!(stream == written());
     assert!(stream.starts_with(b"cases 2\n"));
-    let made = (7..75).map(|seed| {
+    let made = (7..79).map(|seed| {
         let parts = generate_parts(seed).parts;
         calls(seed, &generate(seed).listing).len() + writes(seed, &parts).len()
     });
-    let counts = [0, 2 * 68, made.sum::<usize>() as u32];
+    let counts = [0, 2 * 72, made.sum::<usize>() as u32];
     let end: Vec<u8> = counts.iter().flat_map(|count| count.to_le_bytes()).collect();
     assert!(stream.ends_with(&end));
 }
