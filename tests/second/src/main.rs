@@ -3,7 +3,7 @@
 use std::io::{self, Read, Write};
 use std::process::ExitCode;
 
-use second::calls::{lookup, put_together, verdict, write, Parts, Question, Verdict};
+use second::calls::{lookup, verdict, write, Parts, Question, Verdict};
 use second::{cases, coverage, desk, generate, samples, vectors};
 
 const USAGE: &str = "\
@@ -20,7 +20,7 @@ usage: second judge < LISTING
        second write ROOM < PARTS
        second cases FIRST COUNT > CASES
        second cases-limits TILES > CASES
-       second cases-texts > CASES
+       second cases-texts FIRST COUNT > CASES
        second time KIND TILES
        second coverage FIRST COUNT
        second samples DIR
@@ -71,7 +71,7 @@ fn run(words: &[&str]) -> Result<Outcome, String> {
         ["make", seed] => well(generate::generate(number(seed)?).listing),
         ["limit", limit] => well(limit_listing(number(limit)?)?),
         ["full", kind, tiles] => well(full(kind, number(tiles)?)?),
-        ["text", text] => well(text_listing(number(text)?)?),
+        ["text", text] => well(generate::text_listing(number(text)?)),
         ["parts", seed] => well(parts_as_octets(&generate::generate_parts(number(seed)?).parts)),
         ["cut"] => well(parts_as_octets(&generate::cut(&input()?))),
         ["write", room] => well(write_line(&parts_in(&input()?)?, number(room)?)),
@@ -91,7 +91,10 @@ fn run(words: &[&str]) -> Result<Outcome, String> {
             let tiles = number(tiles)?;
             streamed(|out| cases::write_limits(out, tiles))
         }
-        ["cases-texts"] => streamed(|out| cases::write_texts(out)),
+        ["cases-texts", first, count] => {
+            let (first, count) = (number(first)?, number(count)?);
+            streamed(|out| cases::write_texts(out, first, count))
+        }
         ["samples", folder] => well(samples::write(folder.as_ref()).map_err(told)?),
         ["vectors"] => checked(vectors::run(vectors::samples_folder())),
         ["vectors", folder] => checked(vectors::run(folder.into())),
@@ -123,12 +126,6 @@ fn limit_listing(limit: usize) -> Result<Vec<u8>, String> {
     let found = generate::LIMITS.get(limit);
     let (_, make) = found.ok_or_else(|| format!("limits: 0 to {}", generate::LIMITS.len() - 1))?;
     Ok(make())
-}
-
-fn text_listing(number: usize) -> Result<Vec<u8>, String> {
-    let found = generate::one_texts().nth(number);
-    let texts = || format!("texts: 0 to {}", generate::one_texts().count() - 1);
-    found.map(|text| put_together(&text.parts)).ok_or_else(texts)
 }
 
 /// Parts as the commands hand them on: each after its length, a u32.

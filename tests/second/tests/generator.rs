@@ -1,10 +1,12 @@
 //! The maker against the judge: what the maker knows of its listings, by the
 //! way it made them, the judge must say of them.
 
+use std::collections::HashSet;
+
 use second::calls::{lookup, put_together, report, verdict, Verdict};
-use second::generate::{full, generate, good_pack, one_texts, questions, OneText};
+use second::generate::{full, generate, good_pack, one_text, questions, OneText};
 use second::generate::{one_fault, one_of_characters, one_span};
-use second::generate::{FULL_KINDS, HOSTILE_KINDS, LIMITS};
+use second::generate::{FULL_KINDS, HOSTILE_KINDS, LIMITS, SERIES};
 use second::listing::NONE;
 use second::rules::CODES;
 
@@ -57,11 +59,14 @@ fn ill_texts_are_refused_at_their_place_and_no_others_are() {
 #[test]
 fn texts_are_refused_where_they_are_not_utf8() {
     let mut counts = [0; 2];
-    for (number, OneText { parts, text }) in one_texts().enumerate() {
+    let mut texts = HashSet::new();
+    for number in 0..SERIES {
+        let OneText { parts, text } = one_text(number);
         let refused = report(&put_together(&parts)).err().map(|r| r.number);
         let must = std::str::from_utf8(&text).err().map(|_| 13);
         assert_eq!(refused, must, "text {number}");
         counts[usize::from(must.is_some())] += 1;
+        assert!(number % 2 == 1 || texts.insert(text), "text {number} is there twice");
     }
     assert!(counts[0] > 300 && counts[1] > 6_000, "{counts:?}");
 }

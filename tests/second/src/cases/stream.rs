@@ -28,8 +28,8 @@
 use std::io::{Result, Write};
 
 use super::{calls, few_writes, reader_calls, writes, Asked, Call, Expected, WriteCall};
-use crate::calls::{put_together, Parts, Question};
-use crate::generate::{cut, full, generate, generate_parts, one_texts};
+use crate::calls::{Parts, Question};
+use crate::generate::{cut, full, generate, generate_parts, text_listing, text_numbers};
 use crate::generate::{FULL_KINDS, HOSTILE_KINDS, LIMITS};
 use crate::listing::layout::TILES;
 use crate::listing::read;
@@ -84,12 +84,12 @@ pub fn write_limits(out: impl Write, most_tiles: usize) -> Result<()> {
     stream.ended()
 }
 
-/// The series of texts: each listing read, and written from its parts.
-pub fn write_texts(out: impl Write) -> Result<()> {
+/// The listings of the series of texts, and behind it of so many seeds from the
+/// first on, each read, and written from its parts.
+pub fn write_texts(out: impl Write, first: u64, count: u64) -> Result<()> {
     let mut stream = Stream::begun(out)?;
-    for (number, text) in one_texts().enumerate() {
-        let listing = put_together(&text.parts);
-        stream.reads(&format!("text {number}"), number as u64, &listing)?;
+    for number in text_numbers(first, count) {
+        stream.reads(&format!("text {number}"), number, &text_listing(number))?;
     }
     stream.ended()
 }

@@ -10,9 +10,9 @@ mod writes;
 use std::fmt;
 use std::time::Instant;
 
-use crate::calls::{lookup, put_together, report, verdict, Question};
-use crate::generate::{cut, generate, generate_parts, kind_names, one_texts, questions};
-use crate::generate::{PartsCase, LIMITS};
+use crate::calls::{lookup, report, verdict, Question};
+use crate::generate::{cut, generate, generate_parts, kind_names, questions};
+use crate::generate::{text_listing, text_numbers, PartsCase, LIMITS};
 use crate::listing::{read, Refusal, NONE};
 use crate::rules::{Finding, CODES};
 use spans::Spans;
@@ -64,8 +64,8 @@ const CODES_WITHOUT_ROW: [u32; 3] = [111, 112, 113];
 const OF_A_LISTING: [u32; 9] = [1, 2, 3, 4, 5, 6, 7, 8, 13];
 const OF_A_CALL: [u32; 2] = [9, 10];
 
-/// Makes the listings and parts of so many seeds, the listings at the limits and
-/// the series of texts, and counts.
+/// Makes the listings and parts of so many seeds, the listings at the limits, and
+/// those of the series of texts and of so many seeds behind it, and counts.
 pub fn table(first: u64, count: u64) -> Table {
     let mut table = Table::new();
     for seed in first..first.saturating_add(count) {
@@ -86,8 +86,8 @@ pub fn table(first: u64, count: u64) -> Table {
         let parts = cut(&listing);
         table.writes.count(number, &PartsCase { kind, parts, listing: Some(listing) });
     }
-    for text in one_texts() {
-        let listing = put_together(&text.parts);
+    for number in text_numbers(first, count) {
+        let listing = text_listing(number);
         table.utf8.count(&listing, read(&listing).err());
     }
     table

@@ -10,7 +10,7 @@ use super::Line;
 use crate::calls::Question;
 use crate::generate::{cut, CHARACTERS};
 use crate::listing::layout::{count_at, u32_at, CONTENTS, NAMES, SHAPES};
-use crate::listing::{check_contents, check_utf8, Listing, Refusal};
+use crate::listing::{check_utf8, Listing, Refusal};
 
 /// What stands just beyond the ends of the ranges of Table 3-7.
 const FAULTS: [&[u8]; 36] = [
@@ -82,24 +82,22 @@ impl Seen<'_> {
 
     /// Is it refused for a text in whose octets, from its fault on, that shows?
     fn is_ill(&self, test: impl Fn(&[u8]) -> bool) -> bool {
-        self.ill_texts().any(|text| {
-            self.is_refused_at(text.table, text.row)
-                && text.fault.is_some_and(|fault| test(&self.octets(text)[fault..]))
-        })
-    }
-
-    fn is_refused_at(&self, table: usize, row: usize) -> bool {
-        self.refusal == Some(Refusal::at(13, table, row))
+        let shows = |text: &Text| text.fault.is_some_and(|at| test(&self.octets(text)[at..]));
+        self.refused_texts().any(shows)
     }
 
     fn ill_texts(&self) -> impl Iterator<Item = &Text> {
         self.texts.iter().filter(|text| text.fault.is_some())
     }
 
-    /// The fields of the row that it is refused for in which the ill texts are.
-    fn ill_fields(&self) -> Vec<(usize, usize)> {
-        let refused = self.ill_texts().filter(|text| self.is_refused_at(text.table, text.row));
-        refused.map(|text| (text.table, text.field)).collect()
+    /// Those in the row that it is refused for.
+    fn refused_texts(&self) -> impl Iterator<Item = &Text> {
+        let is_refused = |text: &&Text| self.refusal == Some(Refusal::at(13, text.table, text.row));
+        self.ill_texts().filter(is_refused)
+    }
+
+    fn refused_fields(&self) -> Vec<(usize, usize)> {
+        self.refused_texts().map(|text| (text.table, text.field)).collect()
     }
 }
 
@@ -130,27 +128,26 @@ type Test = Box<dyn Fn(&Seen) -> bool>;
 /// The lines that tell of refusal 13.
 pub struct Utf8 {
     tested: Vec<(Line, Test)>,
-    beside: [Line; 4],
+    after_7: Line,
+    after_8: Line,
+    after_9: Line,
+    before_10: Line,
 }
-
-const SEVEN: usize = 0;
-const EIGHT: usize = 1;
-const NINE: usize = 2;
-const TEN: usize = 3;
 
 impl Utf8 {
     pub fn new() -> Utf8 {
-        let beside = ["7 where 13 is there too", "8 where 13 is there too"];
-        let of_calls = ["9 where 13 is there too", "13 where 10 is there too"];
         let mut utf8 = Utf8 {
             tested: Vec::new(),
-            beside: [beside[0], beside[1], of_calls[0], of_calls[1]].map(Line::new),
+            after_7: Line::new("7 where 13 is there too"),
+            after_8: Line::new("8 where 13 is there too"),
+            after_9: Line::new("9 where 13 is there too"),
+            before_10: Line::new("13 where 10 is there too"),
         };
         utf8.add_characters();
         utf8.add_faults();
         utf8.add_fields();
         utf8.add_parts();
-        utf8.add_multiples();
+        [8, 16, 64, 128, 256].into_iter().for_each(|edge| utf8.add_multiples_of(edge));
         utf8
     }
 
@@ -188,10 +185,10 @@ impl Utf8 {
         for table in 1..NAMES {
             for field in 0..SHAPES[table - 1].texts.len() {
                 let name = format!("13 for table {table}, text {} alone", field + 1);
-                self.add(name, move |seen| seen.ill_fields() == [(table, field)]);
+                self.add(name, move |seen| seen.refused_fields() == [(table, field)]);
             }
         }
-        self.add("13 for two texts of a row", |seen| seen.ill_fields().len() == 2);
+        self.add("13 for two texts of a row", |seen| seen.refused_fields().len() == 2);
         let is_after =
             |text: &Text, r: Refusal| (text.table as u32, text.row as u32) > (r.table, r.row);
         self.add("13 with an ill text in a later row", move |seen| {
@@ -225,33 +222,29 @@ impl Utf8 {
         });
     }
 
-    fn add_multiples(&mut self) {
-        for edge in [8, 16, 64, 128, 256] {
-            self.add(format!("well-formed from a multiple of {edge} on"), move |seen| {
-                seen.is_good(|t| t.places.start >= edge && t.places.start % edge == 0)
-            });
-            self.add(format!("well-formed up to a multiple of {edge}"), move |seen| {
-                seen.is_good(|text| !text.places.is_empty() && text.places.end % edge == 0)
-            });
-            self.add(
-                format!("well-formed, a character across a multiple of {edge}"),
-                move |seen| {
-                    let is_across = |text: &Text| {
-                        let mut at = text.places.start;
-                        let characters = from_utf8(seen.octets(text)).unwrap_or_default().chars();
-                        characters.map(char::len_utf8).any(|octets| {
-                            at += octets;
-                            at % edge > 0 && at % edge < octets
-                        })
-                    };
-                    seen.is_good(is_across)
-                },
-            );
-            self.add(format!("ill-formed from just around a multiple of {edge} on"), move |seen| {
-                let fault_of = |text: &Text| text.fault.map(|fault| text.places.start + fault);
-                seen.ill_texts().filter_map(fault_of).any(|at| (at + 2) % edge < 4)
-            });
-        }
+    fn add_multiples_of(&mut self, edge: usize) {
+        self.add(format!("well-formed from a multiple of {edge} on"), move |seen| {
+            seen.is_good(|text| text.places.start >= edge && text.places.start % edge == 0)
+        });
+        self.add(format!("well-formed up to a multiple of {edge}"), move |seen| {
+            seen.is_good(|text| !text.places.is_empty() && text.places.end % edge == 0)
+        });
+        self.add(format!("well-formed across a multiple of {edge}"), move |seen| {
+            let has_across = |text: &Text| {
+                let mut end = text.places.start;
+                let characters = from_utf8(seen.octets(text)).unwrap_or_default().chars();
+                characters.map(char::len_utf8).any(|octets| {
+                    end += octets;
+                    (1..octets).contains(&(end % edge))
+                })
+            };
+            seen.is_good(has_across)
+        });
+        self.add(format!("ill-formed from about a multiple of {edge} on"), move |seen| {
+            let fault_of = |text: &Text| text.fault.map(|fault| text.places.start + fault);
+            let is_about = |at: usize| at + 2 >= edge && (at + 2) % edge < 4;
+            seen.refused_texts().filter_map(fault_of).any(is_about)
+        });
     }
 
     /// Counts a listing, as it was read.
@@ -260,9 +253,8 @@ impl Utf8 {
         let listing = Listing::of_tables(parts.each_ref().map(Vec::as_slice));
         let number = refusal.map(|refusal| refusal.number);
         let is_ill = check_utf8(&listing).is_err();
-        self.beside[SEVEN].count(number == Some(7) && is_ill);
-        let is_flagged = check_contents(&listing).is_err();
-        self.beside[EIGHT].count(number == Some(8) && is_flagged && is_ill);
+        self.after_7.count(number == Some(7) && is_ill);
+        self.after_8.count(number == Some(8) && is_ill);
         if number.is_none() || number == Some(13) {
             let seen = Seen { names: listing.names(), refusal, texts: texts(&listing) };
             for (line, test) in &mut self.tested {
@@ -271,19 +263,20 @@ impl Utf8 {
         }
     }
 
-    /// Counts a verdict on a listing that is refused 13.
+    /// Counts a verdict on a listing that has such a text.
     pub fn count_verdict(&mut self, refused: Option<Refusal>) {
-        self.beside[NINE].count(refused.is_some_and(|refusal| refusal.number == 9));
+        self.after_9.count(refused.is_some_and(|refusal| refusal.number == 9));
     }
 
-    /// Counts a lookup on such a listing.
+    /// Counts a lookup on a listing that is refused 13.
     pub fn count_lookup(&mut self, octets: &[u8], question: Question) {
         let contents = u32_at(octets, count_at(CONTENTS));
-        self.beside[TEN].count(question.contents_row >= contents);
+        self.before_10.count(question.contents_row >= contents);
     }
 
     pub fn lines(&self) -> impl Iterator<Item = &Line> {
-        self.tested.iter().map(|(line, _)| line).chain(&self.beside)
+        let beside = [&self.after_7, &self.after_8, &self.after_9, &self.before_10];
+        self.tested.iter().map(|(line, _)| line).chain(beside)
     }
 }
 

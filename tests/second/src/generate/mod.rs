@@ -27,7 +27,7 @@ pub use questions::{questions, Questions};
 pub use random::Random;
 #[cfg(test)]
 pub(crate) use spans::wild_axis;
-pub use texts::{one_texts, OneText};
+pub use texts::{one_text, text_listing, text_numbers, OneText, SERIES};
 pub(crate) use utf8::CHARACTERS;
 
 use crate::make::Draft;
@@ -131,8 +131,12 @@ pub fn one_span(seed: u64) -> (Vec<u8>, [bool; 2]) {
 /// A listing with characters at the edge of being ones, and what the maker knows
 /// of it: the table and the row for which 13 must refuse it, if it must.
 pub fn one_of_characters(seed: u64) -> (Vec<u8>, Option<(u32, u32)>) {
-    let makers = [utf8::characters, utf8::ill_characters, utf8::around_multiples];
-    let utf8::Known { draft, place } = makers[(seed % 3) as usize](&mut Random::new(seed));
+    let mut random = Random::new(seed);
+    let utf8::Known { draft, place } = match seed % 4 {
+        0 => utf8::characters(&mut random),
+        1 => utf8::ill_characters(&mut random),
+        _ => utf8::around_multiples(&mut random),
+    };
     (draft.listing(), place)
 }
 

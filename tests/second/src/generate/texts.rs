@@ -1,8 +1,10 @@
 //! A series of listings with one text each beside the empty ones: every text of
 //! up to four octets at the ends of the ranges of Table 3-7 and one beyond, by
-//! itself and between others.
+//! itself and between others. Behind the series come listings of many texts, each
+//! from a seed.
 
-use crate::calls::Parts;
+use super::one_of_characters;
+use crate::calls::{put_together, Parts};
 use crate::listing::layout::{NAMES, SHAPES};
 use crate::make::set_u32;
 
@@ -15,51 +17,68 @@ const FIRST: [u8; 23] = [
 const SECOND: [u8; 8] = [0x7f, 0x80, 0x8f, 0x90, 0x9f, 0xa0, 0xbf, 0xc0];
 const LATER: [u8; 4] = [0x7f, 0x80, 0xbf, 0xc0];
 
+const OCTETS: [&[u8]; 4] = [&FIRST, &SECOND, &LATER, &LATER];
+
+/// How many texts there are, each by itself and between others.
+pub const SERIES: u64 =
+    2 * (FIRST.len() * (1 + SECOND.len() * (1 + LATER.len() * (1 + LATER.len())))) as u64;
+
+/// The listing of a number: of the series, or behind it of the seeds from 0 on.
+pub fn text_listing(number: u64) -> Vec<u8> {
+    match number.checked_sub(SERIES) {
+        None => put_together(&one_text(number).parts),
+        Some(seed) => one_of_characters(seed).0,
+    }
+}
+
+/// The numbers of the series, and of so many seeds from the first on.
+pub fn text_numbers(first: u64, count: u64) -> impl Iterator<Item = u64> {
+    let behind = SERIES.saturating_add(first);
+    (0..SERIES).chain(behind..behind.saturating_add(count))
+}
+
 /// A listing of the series, in parts, and its text.
 pub struct OneText {
     pub parts: Parts,
     pub text: Vec<u8>,
 }
 
-/// The whole series. Its listings take turns in the field that the text is in,
-/// and in what stands around it.
-pub fn one_texts() -> impl Iterator<Item = OneText> {
-    let texts = texts().into_iter().flat_map(|octets| {
-        // By itself between octets that would go on with it; and with others.
-        [(octets.clone(), true), (octets, false)]
-    });
-    texts.enumerate().map(|(number, (octets, is_alone))| match is_alone {
-        true => in_a_field(number, &[0xe1, 0x80][..number % 3], octets, &[0x80; 3]),
-        false => {
-            let before = vec![b'a'; number % 19];
-            let text = [&before, octets.as_slice(), &b"zzzzz"[..number % 6]].concat();
-            in_a_field(number, b"", text, b"")
-        }
-    })
-}
-
-fn texts() -> Vec<Vec<u8>> {
-    let mut texts: Vec<Vec<u8>> = FIRST.iter().map(|&first| vec![first]).collect();
-    let mut longest = texts.clone();
-    for octets in [&SECOND[..], &LATER, &LATER] {
-        let longer = |text: &Vec<u8>| {
-            let text = text.clone();
-            octets.iter().map(move |&octet| [text.as_slice(), &[octet]].concat())
-        };
-        longest = longest.iter().flat_map(longer).collect();
-        texts.extend_from_slice(&longest);
+/// The listing of a number of the series. They take turns in the field that the
+/// text is in, and in what stands around it.
+pub fn one_text(number: u64) -> OneText {
+    let turn = number as usize / 2;
+    let octets = text(turn);
+    if number % 2 == 0 {
+        // By itself, between octets that would go on with it.
+        return in_a_field(turn, &[0xe1, 0x80][..turn % 3], octets, &[0x80; 3]);
     }
-    texts
+    let text = [&b"a".repeat(turn % 19), octets.as_slice(), &b"zzzzz"[..turn % 6]].concat();
+    in_a_field(turn, b"", text, b"")
 }
 
-/// One row in each table, of zeros but for this text, in a field by the number.
-fn in_a_field(number: usize, before: &[u8], text: Vec<u8>, after: &[u8]) -> OneText {
+/// The text at a place of the series: the shorter ones come first.
+fn text(mut at: usize) -> Vec<u8> {
+    let mut octets = &OCTETS[..1];
+    let mut count = FIRST.len();
+    while at >= count && octets.len() < OCTETS.len() {
+        at -= count;
+        count *= OCTETS[octets.len()].len();
+        octets = &OCTETS[..octets.len() + 1];
+    }
+    let chosen = octets.iter().map(|choices| {
+        let octet = choices[at % choices.len()];
+        at /= choices.len();
+        octet
+    });
+    chosen.collect()
+}
+
+/// One row in each table, of zeros but for this text, in a field by its turn.
+fn in_a_field(turn: usize, before: &[u8], text: Vec<u8>, after: &[u8]) -> OneText {
     let mut parts = SHAPES.map(|shape| vec![0; shape.row_size]);
-    let tables = 1..NAMES;
-    let fields: Vec<(usize, usize)> = tables
-        .flat_map(|table| SHAPES[table - 1].texts.iter().map(move |text| (table, text.at)))
-        .collect();
-    let (table, at) = fields[number % fields.len()];
+    let fields_of = |table: usize| SHAPES[table - 1].texts.iter().map(move |t| (table, t.at));
+    let fields: Vec<(usize, usize)> = (1..NAMES).flat_map(fields_of).collect();
+    let (table, at) = fields[turn % fields.len()];
     set_u32(&mut parts[table - 1], at, before.len() as u32);
     set_u32(&mut parts[table - 1], at + 4, text.len() as u32);
     parts[NAMES - 1] = [before, &text, after].concat();

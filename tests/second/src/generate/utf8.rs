@@ -136,9 +136,10 @@ impl Names {
         let is_ascii = random.once_in(2);
         while names.octets.len() < length {
             let to_next = edge - names.octets.len() % edge;
-            match random.below(8) {
-                0 if to_next < 6 => names.add_stray(random),
-                1..=4 if to_next < 6 => names.add(random.pick(&CHARACTERS[3..])),
+            match random.below(128) {
+                0 => names.add_stray(random),
+                1..16 if to_next < 6 => names.add_stray(random),
+                16..80 if to_next < 6 => names.add(random.pick(&CHARACTERS[3..])),
                 _ if is_ascii => names.add('a'),
                 _ => names.add(random.pick(&CHARACTERS)),
             }
@@ -300,7 +301,7 @@ pub fn characters(random: &mut Random) -> Known {
 pub fn ill_characters(random: &mut Random) -> Known {
     let (characters, stray_once_in) = (random.below(40), random.pick(&[2, 6, 1_000]));
     let names = Names::with(random, characters, stray_once_in);
-    let ills = random.pick(&[1, 1, 1, 2, 5]);
+    let ills = random.pick(&[1, 1, 1, 2, 5, 20]);
     Known::of(random, names, ills, Names::good, Names::ill)
 }
 
@@ -308,7 +309,7 @@ pub fn ill_characters(random: &mut Random) -> Known {
 pub fn around_multiples(random: &mut Random) -> Known {
     let edge = random.pick(&[8, 16, 32, 64, 128, 128, 256, 256, 512]);
     let names = Names::around(random, edge);
-    let ills = random.pick(&[0, 0, 0, 1, 1, 3]);
+    let ills = random.pick(&[0, 0, 0, 1, 1, 2]);
     let good = |names: &Names, random: &mut Random| names.good_around(random, edge);
     let ill = |names: &Names, random: &mut Random| names.ill_around(random, edge);
     Known::of(random, names, ills, good, ill)
