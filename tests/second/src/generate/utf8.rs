@@ -94,9 +94,11 @@ struct Names {
 }
 
 impl Names {
-    /// They begin with a character of two octets, so that some part is ill.
-    fn new() -> Names {
+    /// They begin with so many octets of ASCII and a character of two octets, so
+    /// that some part is ill.
+    fn new(ascii: usize) -> Names {
         let mut names = Names { octets: Vec::new(), stretches: vec![vec![0]] };
+        (0..ascii).for_each(|_| names.add('a'));
         names.add('\u{e9}');
         names
     }
@@ -116,10 +118,12 @@ impl Names {
         self.add(random.pick(&CHARACTERS));
     }
 
-    /// So many characters, and stray octets once in so many times.
-    fn with(random: &mut Random, characters: usize, stray_once_in: usize) -> Names {
-        let mut names = Names::new();
-        for _ in 0..characters {
+    /// Some characters, and none, few or many stray octets.
+    fn any(random: &mut Random) -> Names {
+        let stray_once_in = random.pick(&[2, 6, 1_000]);
+        let ascii = random.below(20);
+        let mut names = Names::new(random.pick(&[0, ascii]));
+        for _ in 0..random.below(40) {
             match random.once_in(stray_once_in) {
                 true => names.add_stray(random),
                 false => names.add(random.pick(&CHARACTERS)),
@@ -131,7 +135,8 @@ impl Names {
     /// Some thousand octets, ASCII or mixed, in which characters of several
     /// octets and strays stand around the multiples of `edge`.
     fn around(random: &mut Random, edge: usize) -> Names {
-        let mut names = Names::new();
+        let ascii = edge * random.below(4) + random.below(7);
+        let mut names = Names::new(ascii.saturating_sub(3));
         let length = edge + random.below(5_000);
         let is_ascii = random.once_in(2);
         while names.octets.len() < length {
@@ -196,7 +201,8 @@ impl Names {
         self.ill_between(|| [0; 2].map(|_| self.near(random, edge)))
     }
 
-    /// Places are tried until there is one; the first character, cut, in the end.
+    /// Places are tried until there is one; in the end the first character beyond
+    /// ASCII, cut.
     fn ill_between(&self, mut places: impl FnMut() -> [usize; 2]) -> Span {
         for _ in 0..1_000 {
             let [one, other] = places();
@@ -205,7 +211,8 @@ impl Names {
                 return span(start, end - start);
             }
         }
-        span(0, 1)
+        let ascii = self.octets.iter().take_while(|octet| octet.is_ascii()).count();
+        span(ascii, 1)
     }
 }
 
@@ -279,7 +286,14 @@ impl Known {
         good: impl Fn(&Names, &mut Random) -> Span,
         ill: impl Fn(&Names, &mut Random) -> Span,
     ) -> Known {
-        let mut draft = rows(random, |random| good(&names, random));
+        let mut last = good(&names, random);
+        let mut draft = rows(random, |random| {
+            // Often the text of the row before.
+            if !random.once_in(3) {
+                last = good(&names, random);
+            }
+            last
+        });
         let places = (0..ills).filter_map(|_| {
             let text = ill(&names, random);
             put(random, &mut draft, text)
@@ -292,15 +306,13 @@ impl Known {
 
 /// Well-formed texts over one another in every field, strays between them.
 pub fn characters(random: &mut Random) -> Known {
-    let (characters, stray_once_in) = (random.below(40), random.pick(&[2, 6, 1_000]));
-    let names = Names::with(random, characters, stray_once_in);
+    let names = Names::any(random);
     Known::of(random, names, 0, Names::good, Names::ill)
 }
 
 /// The same with some that are not well-formed.
 pub fn ill_characters(random: &mut Random) -> Known {
-    let (characters, stray_once_in) = (random.below(40), random.pick(&[2, 6, 1_000]));
-    let names = Names::with(random, characters, stray_once_in);
+    let names = Names::any(random);
     let ills = random.pick(&[1, 1, 1, 2, 5, 20]);
     Known::of(random, names, ills, Names::good, Names::ill)
 }
