@@ -58,6 +58,7 @@ static const char *words_of_reason(uint32_t number)
     case DESTERLIN_REFUSED_FLAG: return "a contents row's flag, spare or srs_id is not as laid down";
     case DESTERLIN_REFUSED_UNKNOWN_CODE: return "no such code";
     case DESTERLIN_REFUSED_NO_TILES: return "no such contents row, or it is not one of tiles";
+    case DESTERLIN_REFUSED_UTF8: return "a text is not well-formed UTF-8, so it cannot be shown";
     default: return "a reason of a later edition";
     }
 }

@@ -34,7 +34,7 @@ extern "C" {
  * The edition of this header and of the library that goes with it. It rises by one with each request that changes what
  * a caller has compiled: a call, a word of an answer, a size, a code. desterlin.pc has the same one.
  */
-#define DESTERLIN_VERSION 2
+#define DESTERLIN_VERSION 3
 
 /* "None", where a word would be a row number: no row, no partner, no tile. */
 #define DESTERLIN_NONE UINT32_C(4294967295)
@@ -99,9 +99,9 @@ enum desterlin_table {
 #define DESTERLIN_NAME_OCTETS_MOST 1048576
 
 /*
- * Why a listing is turned away, or not written. Report gives 1 to 8, verdict 9 too, lookup 10 too, and the reasons are
- * checked in this order, but for 9, which comes first. Write gives 11, 5, 7, 8 and 12, checked in that order. The place
- * is a table number and a row; it is 0 0 where nothing else is said.
+ * Why a listing is turned away, or not written. Report gives 1 to 8 and 13, checked in that order; verdict gives 9 too,
+ * checked before them, and lookup 10 too, checked after them. Write gives 11, 5, 7, 8, 13 and 12, checked in that order.
+ * The place is a table number and a row; it is 0 0 where nothing else is said.
  */
 enum desterlin_reason {
     DESTERLIN_ACCEPTED = 0,            /* no refusal; the place is 0 0 */
@@ -117,14 +117,15 @@ enum desterlin_reason {
     DESTERLIN_REFUSED_UNKNOWN_CODE = 9, /* verdict: the code is none of the 36 */
     DESTERLIN_REFUSED_NO_TILES = 10,   /* lookup: no such contents row, or its data_type is not "tiles" */
     DESTERLIN_REFUSED_PART = 11,       /* write: a part is not whole rows; place: the first such table, 0 */
-    DESTERLIN_REFUSED_ROOM = 12        /* write: the buffer is shorter than the listing */
+    DESTERLIN_REFUSED_ROOM = 12,       /* write: the buffer is shorter than the listing */
+    DESTERLIN_REFUSED_UTF8 = 13        /* a text that is not well-formed UTF-8; place: its table and row */
 };
 
 /*
  * Report: everything that is wrong with a listing.
  *
  * answer (DESTERLIN_REPORT_ANSWER octets), five words:
- *   0 number         0 accepted, or 1 to 8 (enum desterlin_reason)
+ *   0 number         0 accepted, or 1 to 8 or 13 (enum desterlin_reason)
  *   1 refused table  \ place of the refusal; 0 0 where accepted
  *   2 refused row    /
  *   3 total          how many findings the listing has; 0 where refused
@@ -156,7 +157,7 @@ enum desterlin_report_word {
  * answer (DESTERLIN_VERDICT_ANSWER octets), five words:
  *   0 ruling         enum desterlin_ruling
  *   1 first row      of a fail: the lowest row with a finding, or none where the finding has no row; otherwise none
- *   2 number         0 accepted, or 1 to 9 (enum desterlin_reason)
+ *   2 number         0 accepted, or 1 to 9 or 13 (enum desterlin_reason)
  *   3 refused table  \ place of the refusal; 0 0 where accepted
  *   4 refused row    /
  */
@@ -188,7 +189,7 @@ enum desterlin_ruling {
  *
  * answer (DESTERLIN_LOOKUP_ANSWER octets), four words:
  *   0 tile           the lowest tile row with that name, zoom, column and row, or none
- *   1 number         0 accepted, or 1 to 8 or 10 (enum desterlin_reason)
+ *   1 number         0 accepted, or 1 to 8, 10 or 13 (enum desterlin_reason)
  *   2 refused table  \ place of the refusal; 0 0 where accepted
  *   3 refused row    /
  */
@@ -212,8 +213,8 @@ enum desterlin_lookup_word {
  * and the parts of an accepted listing write back to the same octets.
  *
  * answer (DESTERLIN_WRITE_ANSWER octets), four words:
- *   0 number         0 written, or 11, 5, 7, 8 or 12 (enum desterlin_reason); 5, 7 and 8 are the faults, with their
- *                    places, that a listing of these parts would have
+ *   0 number         0 written, or 11, 5, 7, 8, 13 or 12 (enum desterlin_reason); 5, 7, 8 and 13 are the faults, with
+ *                    their places, that a listing of these parts would have
  *   1 refused table  \ place of the refusal; 0 0 where written
  *   2 refused row    /
  *   3 octets         how long the listing is: the 64 of the header and those of all parts; 0 where refused

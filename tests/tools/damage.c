@@ -37,6 +37,17 @@ static uint64_t telling_number(struct chance *chance, size_t size)
     return numbers[draw_below(chance, sizeof numbers / sizeof numbers[0])];
 }
 
+/* The first and the last letters of two, three and four octets, and the last before the surrogates. Another damage to
+   their octets, or to the text that has them, makes them ill. */
+static void put_telling_letter(struct chance *chance, uint8_t *octets)
+{
+    static const char *const letters[] = {
+        "\xc2\x80", "\xdf\xbf", "\xe0\xa0\x80", "\xed\x9f\xbf", "\xef\xbf\xbf", "\xf0\x90\x80\x80", "\xf4\x8f\xbf\xbf"
+    };
+    const char *letter = letters[draw_below(chance, sizeof letters / sizeof letters[0])];
+    memcpy(octets, letter, strlen(letter));
+}
+
 /* A place for so many octets, most often behind the header: a spoiled header has the rest never read. */
 static size_t draw_place(struct chance *chance, size_t size, size_t count)
 {
@@ -50,7 +61,7 @@ static size_t one_damage(struct chance *chance, uint8_t *octets, size_t size, si
     if (size < 8)
         return size;
     size_t place = draw_place(chance, size, 8);
-    switch (draw_below(chance, 9)) {
+    switch (draw_below(chance, 10)) {
     case 0:
         octets[draw_place(chance, size, 1)] = (uint8_t)draw(chance);
         return size;
@@ -73,6 +84,9 @@ static size_t one_damage(struct chance *chance, uint8_t *octets, size_t size, si
         return size;
     }
     case 7:
+        put_telling_letter(chance, octets + place + draw_below(chance, 5));
+        return size;
+    case 8:
         return draw_below(chance, 4) == 0 ? draw_below(chance, size + 1) : size - draw_below(chance, 9);
     default: {
         size_t more = draw_below(chance, MOST_ADDED + 1);

@@ -21,7 +21,7 @@
 #include "fuzz_write.h"
 #include "walled.h"
 
-enum { MOST_LISTINGS = 64, FINDINGS_ROOM = 60000, SMALL_LISTING = 4096, MOST_REASON = 10 };
+enum { MOST_LISTINGS = 64, FINDINGS_ROOM = 60000, SMALL_LISTING = 4096 };
 
 static const uint32_t codes[] = {
 #define CODE(code, table, words) code,
@@ -39,9 +39,9 @@ static struct {
     struct room listing, findings, work, answer;
 } rooms;
 
-/* What the tried inputs came to; a fuzzer that is always refused tests little. */
+/* What the tried inputs came to, by the number of the report; a fuzzer that is always refused tests little. */
 static struct {
-    unsigned long reasons[MOST_REASON + 1], with_findings, without_findings, tiles_found;
+    unsigned long reasons[DESTERLIN_REFUSED_UTF8 + 1], with_findings, without_findings, tiles_found;
 } tally;
 
 static uint8_t original[LISTING_ROOM];
@@ -82,6 +82,11 @@ static size_t draw_work_size(struct chance *chance)
     }
 }
 
+static int is_of_report(uint32_t number)
+{
+    return number <= DESTERLIN_REFUSED_FLAG || number == DESTERLIN_REFUSED_UTF8;
+}
+
 /* A report; the answer, if there is one, is left in `words`. Returns whether there is one. */
 static int try_report(struct chance *chance, struct lent listing, struct lent findings, size_t work_size,
                       uint32_t words[5])
@@ -98,7 +103,7 @@ static int try_report(struct chance *chance, struct lent listing, struct lent fi
     }
     check(keeps(answer, DESTERLIN_REPORT_ANSWER), "report: octets past the answer keep their values");
     check_place(answer, DESTERLIN_REPORT_NUMBER);
-    check(desterlin_word(answer.octets, DESTERLIN_REPORT_NUMBER) <= DESTERLIN_REFUSED_FLAG, "report: no reason above 8");
+    check(is_of_report(desterlin_word(answer.octets, DESTERLIN_REPORT_NUMBER)), "report: no reason but 1 to 8 and 13");
     for (size_t i = 0; i < 5; i++)
         words[i] = desterlin_word(answer.octets, i);
     uint32_t total = words[DESTERLIN_REPORT_TOTAL], written = words[DESTERLIN_REPORT_WRITTEN];
@@ -271,8 +276,9 @@ static void print_tally(unsigned long count)
 {
     printf("fuzz: %lu inputs, every promise kept; accepted %lu (with findings %lu, without %lu), refused", count,
            tally.reasons[0], tally.with_findings, tally.without_findings);
-    for (size_t i = 1; i <= DESTERLIN_REFUSED_FLAG; i++)
-        printf(" %zu: %lu", i, tally.reasons[i]);
+    for (uint32_t i = 1; i <= DESTERLIN_REFUSED_UTF8; i++)
+        if (is_of_report(i))
+            printf(" %" PRIu32 ": %lu", i, tally.reasons[i]);
     printf("; lookups that found a tile %lu\n", tally.tiles_found);
 }
 

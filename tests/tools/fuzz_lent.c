@@ -80,6 +80,6 @@ void check_place(struct lent answer, size_t at)
     uint32_t number = desterlin_word(answer.octets, at);
     uint32_t table = desterlin_word(answer.octets, at + 1), row = desterlin_word(answer.octets, at + 2);
     int has_place = (number >= DESTERLIN_REFUSED_COUNT && number <= DESTERLIN_REFUSED_FLAG)
-        || number == DESTERLIN_REFUSED_PART;
-    check(has_place ? table >= 1 && table <= 7 : table == 0 && row == 0, "a place for reasons 5 to 8 and 11 alone");
+        || number == DESTERLIN_REFUSED_PART || number == DESTERLIN_REFUSED_UTF8;
+    check(has_place ? table >= 1 && table <= 7 : table == 0 && row == 0, "a place for reasons 5 to 8, 11 and 13 alone");
 }

@@ -12,7 +12,7 @@ static struct {
 } rooms;
 
 /* What the writes came to, by number. */
-static unsigned long tally[DESTERLIN_REFUSED_ROOM + 1];
+static unsigned long tally[DESTERLIN_REFUSED_UTF8 + 1];
 
 /* The parts of one write: where their octets stand in what they were cut from, and as they are lent. */
 struct parts {
@@ -94,7 +94,7 @@ static void check_as_reported(struct lent answer, const uint32_t report[5])
     uint32_t reported = report[DESTERLIN_REPORT_NUMBER];
     if (reported == DESTERLIN_ACCEPTED)
         check(number == DESTERLIN_ACCEPTED || number == DESTERLIN_REFUSED_ROOM, "write: accepted as the listing is");
-    if (reported == DESTERLIN_REFUSED_TEXT || reported == DESTERLIN_REFUSED_FLAG)
+    if (reported == DESTERLIN_REFUSED_TEXT || reported == DESTERLIN_REFUSED_FLAG || reported == DESTERLIN_REFUSED_UTF8)
         check(number == reported
                   && desterlin_word(answer.octets, DESTERLIN_WRITE_REFUSED_TABLE) == report[DESTERLIN_REPORT_REFUSED_TABLE]
                   && desterlin_word(answer.octets, DESTERLIN_WRITE_REFUSED_ROW) == report[DESTERLIN_REPORT_REFUSED_ROW],
@@ -119,7 +119,7 @@ void check_write(struct chance *chance, const uint8_t *octets, size_t size, cons
     uint32_t number = desterlin_word(answer.octets, DESTERLIN_WRITE_NUMBER);
     uint32_t written = desterlin_word(answer.octets, DESTERLIN_WRITE_OCTETS);
     int is_written = number == DESTERLIN_ACCEPTED;
-    check(number <= DESTERLIN_REFUSED_ROOM, "write: no reason above its own");
+    check(number <= DESTERLIN_REFUSED_UTF8, "write: no reason above its own");
     check(written == (is_written ? parts.listing_size : 0), "write: the octets of the listing, or 0");
     check(keeps(listing, written), "write: octets past the listing keep their values, and all if refused");
     check(number != DESTERLIN_REFUSED_ROOM || listing.size < parts.listing_size, "write: 12 where there is no room alone");
@@ -135,7 +135,7 @@ void check_write(struct chance *chance, const uint8_t *octets, size_t size, cons
 void print_writes(void)
 {
     printf("fuzz: their parts written %lu times, refused", tally[DESTERLIN_ACCEPTED]);
-    for (size_t i = 1; i <= DESTERLIN_REFUSED_ROOM; i++)
+    for (size_t i = 1; i <= DESTERLIN_REFUSED_UTF8; i++)
         if (tally[i] > 0)
             printf(" %zu: %lu", i, tally[i]);
     printf("\n");
