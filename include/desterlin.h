@@ -100,8 +100,8 @@ enum desterlin_table {
 
 /*
  * Why a listing is turned away, or not written. Report gives 1 to 8 and 13, checked in that order; verdict gives 9 too,
- * checked before them, and lookup 10 too, checked after them. Write gives 11, 5, 7, 8, 13 and 12, checked in that order.
- * The place is a table number and a row; it is 0 0 where nothing else is said.
+ * checked before them, and lookup 10 too, checked after them. Write gives 11, 5, 7, 8, 13 and 12, checked in that
+ * order. The place is a table number and a row; it is 0 0 where nothing else is said.
  */
 enum desterlin_reason {
     DESTERLIN_ACCEPTED = 0,            /* no refusal; the place is 0 0 */

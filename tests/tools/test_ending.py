@@ -28,7 +28,7 @@ class StandardOutput(InRoom):
         return [
             f"tools/gpkg-check {MEADOW}",
             f"tools/gpkg-check --json {PACKS / 'valley.gpkg'}",
-            f"tools/gpkg-check --jobs 2 {PACKS}",
+            f"tools/gpkg-check --jobs 2 {MEADOW} {PACKS / 'valley.gpkg'}",
             f"tools/gpkg-listing {MEADOW} -",
             f"tools/gpkg-listing {MEADOW} {self.room / 'out.listing'}",
         ]

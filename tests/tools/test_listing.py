@@ -14,6 +14,7 @@ from unittest import mock
 from packs import ADDRESS, DATE, PACKS, TOOLS, InRoom, Ran, Rows, good, judged_by_second, make_pack, needs_library
 
 from desterlin.console import Trouble
+from desterlin.geopackage import rows_of
 from desterlin.listing import Draft, Listing
 
 
@@ -21,6 +22,7 @@ from desterlin.listing import Draft, Listing
 class SamplePacks(InRoom):
     def test_findings_are_the_planted_ones(self) -> None:
         for name, printed in {
+            "alp": "total 0\n",
             "hill": "total 0\n",
             "meadow": "total 0\n",
             "slope": "finding 351 2 1\nfinding 451 2 -\nfinding 452 2 -\ntotal 3\n",
@@ -38,7 +40,7 @@ class SamplePacks(InRoom):
         self.assertEqual(names, [path.name for path in sorted(PACKS.glob("*.gpkg"))])
         for name in names:
             made, kept = self.room / name, PACKS / name
-            self.assertEqual(self.listing_of(made), self.listing_of(kept))
+            self.assertEqual(*(rows_of(str(pack), lambda words: None).parts for pack in [made, kept]))
             if made.read_bytes() != kept.read_bytes():
                 print(f"note: SQLite {sqlite3.sqlite_version} lays {name} out in other octets, with the same rows")
 
@@ -273,10 +275,6 @@ class Names(InRoom):
         texts = ["EPSG", "any", "NONE", "undefined", "farm", "tiles", DATE, "tile_data", "gpkg_webp", "read-write"]
         count, offset = struct.unpack_from("<2I", listing, 56)
         self.assertEqual((count, listing[offset:]), (len("".join(texts)), "".join(texts).encode()))
-
-    def test_octets_that_are_no_utf_8_are_carried(self) -> None:
-        pack = self.pack(good(), "UPDATE gpkg_extensions SET scope = CAST(x'726561642dff00' AS TEXT)")
-        self.assertEqual(Listing(self.listing_of(pack)).extensions()[0].scope, b"read-\xff\0")
 
 
 @needs_library

@@ -91,7 +91,8 @@ class PartsOfAPack(InRoom):
         self.check_not_judged(pack, f'view "seen": {NAMED_BY_NOTHING}')
 
     def test_samples_are_judged_whole(self) -> None:
-        for pack in sorted(PACKS.glob("*.gpkg")):
+        for listing in sorted(PACKS.glob("*.listing")):
+            pack = listing.with_suffix(".gpkg")
             self.assertEqual(json.loads(Called(GPKG_CHECK, "--json", pack).out)["not_judged"], [], pack.name)
 
 

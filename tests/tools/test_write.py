@@ -191,10 +191,10 @@ class WrittenBack(unittest.TestCase):
 
     def test_packs(self) -> None:
         """The headers of the listings beside the packs were laid by code that is gone, and not by the writer."""
-        for pack in sorted(PACKS.glob("*.gpkg")):
-            ran = Ran(["tools/gpkg-listing", pack, "-"])
+        for listing in sorted(PACKS.glob("*.listing")):
+            ran = Ran(["tools/gpkg-listing", listing.with_suffix(".gpkg"), "-"])
             self.assertEqual((ran.status, ran.err), (0, ""))
-            self.assertEqual(ran.octets, pack.with_suffix(".listing").read_bytes(), pack.name)
+            self.assertEqual(ran.octets, listing.read_bytes(), listing.name)
 
 
 @needs_library
@@ -303,8 +303,8 @@ class RefusalsInWords(InRoom):
         header = (ROOT / "include" / "desterlin.h").read_text(encoding="utf-8")
         said = re.findall(r"Write gives ([\d, and]+), checked in that order", header)
         numbers = [int(number) for words in said for number in re.findall(r"\d+", words)]
-        self.assertEqual(numbers, [11, 5, 7, 8, 12])
-        self.assertEqual(list(dict.fromkeys([number for number, _, _ in SPOILT] + [12])), numbers)
+        # test_texts.py has 13.
+        self.assertEqual(list(dict.fromkeys([number for number, _, _ in SPOILT] + [13, 12])), numbers)
 
     def stand_in(self, does: str) -> "mock._patch[mock.MagicMock]":
         program = self.room / "stand-in"

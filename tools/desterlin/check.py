@@ -12,6 +12,7 @@ from .files import start_of
 from .geopackage import MAGIC, Origins
 from .listing import LISTING_MOST, Listing
 from .rules import Finding, Refusal
+from .texts import NOT_UTF_8, ill_texts
 from .words import refusal_words
 
 # In the place of a path.
@@ -67,5 +68,14 @@ def accepted(path: str, exported: Exported, say: Callable[[str], None]) -> Judge
     say(f"judging {counted(len(exported.octets), 'octet')}")
     answer = library.judged(exported.octets)
     if isinstance(answer, Refusal):
-        raise trouble_with(path, f"the listing is refused, {refusal_words(answer, exported.origins.of)}")
+        raise refused(path, exported, answer)
     return Judged(path, Listing(exported.octets), answer, exported.origins, exported.not_judged)
+
+
+def refused(path: str, exported: Exported, refusal: Refusal) -> Trouble:
+    origin = exported.origins.of
+    words = f"the listing is refused, {refusal_words(refusal, origin)}"
+    if refusal.number != NOT_UTF_8:
+        return trouble_with(path, words)
+    ill = ill_texts(Listing(exported.octets))
+    return trouble_with(path, words, *ill.lines(origin), facts=ill.facts(origin))

@@ -8,13 +8,16 @@ import io
 import os
 import sys
 import traceback
-from typing import Callable, Iterable, Iterator, NoReturn, Optional, TextIO
+from typing import Callable, Dict, Iterable, Iterator, NoReturn, Optional, TextIO
 
 # Exit statuses; the last two are what a shell gives for a program that these signals ended.
 CLEAN, FINDINGS, UNUSABLE = 0, 1, 2
 INTERRUPTED, BROKEN_PIPE = 130, 141
 
 LONGEST_SHOWN = 80
+
+# Of a text that is no UTF-8, so many octets are shown on each side of the one at fault.
+SHOWN_AROUND = 24
 
 # The tool that speaks: what is said on standard error begins with its name.
 speaker = "desterlin"
@@ -24,15 +27,20 @@ TRACEBACK = "DESTERLIN_TRACEBACK"
 
 
 class Trouble(Exception):
-    """Something that a person has to put right; its words, a line or several, are the whole message."""
+    """Something that a person has to put right; its words, a line or several, are the whole message. The facts, where
+    there are any, are the same for machines."""
+
+    def __init__(self, words: str, facts: Optional[Dict[str, object]] = None) -> None:
+        super().__init__(words)
+        self.facts = facts or {}
 
 
 class SeenEnough(Exception):
     """Whoever reads standard output has closed it, as head does."""
 
 
-def trouble_with(path: str, *lines: str) -> Trouble:
-    return Trouble("\n".join(f"{plain(path)}: {line}" for line in lines))
+def trouble_with(path: str, *lines: str, facts: Optional[Dict[str, object]] = None) -> Trouble:
+    return Trouble("\n".join(f"{plain(path)}: {line}" for line in lines), facts)
 
 
 def shown(text: Optional[bytes]) -> str:
@@ -45,6 +53,21 @@ def shown(text: Optional[bytes]) -> str:
     if '"' in start or "\\" in start:
         start = start.replace("\\", "\\\\").replace('"', '\\"')
     return f'"{plain(start)}"{more}'
+
+
+def shown_around(text: bytes, at: int) -> str:
+    """A text that is no UTF-8, or what stands around an octet of it: what is not ASCII is told octet by octet."""
+    start, end = max(0, at - SHOWN_AROUND), at + 1 + SHOWN_AROUND
+    before, after = "…" if start > 0 else "", "…" if end < len(text) else ""
+    length = f" ({counted(len(text), 'octet')})" if before or after else ""
+    return f'{before}"{"".join(map(octet_shown, text[start:end]))}"{after}{length}'
+
+
+def octet_shown(octet: int) -> str:
+    letter = chr(octet)
+    if letter in '"\\':
+        return "\\" + letter
+    return letter if " " <= letter <= "~" else f"\\x{octet:02x}"
 
 
 def plain(line: str) -> str:

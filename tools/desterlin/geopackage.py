@@ -1,7 +1,8 @@
 """A GeoPackage's rows as the parts of a listing, with a note of where each row came from, and of what is left out.
 
 What a listing cannot carry is Trouble, told with its table and row, all of it at once. Nothing is mended on the way: a
-mended pack would be judged in the place of the one that is shipped.
+mended pack would be judged in the place of the one that is shipped. So texts go on octet by octet, UTF-8 or not: which
+of them are is for the writer to say.
 """
 
 from __future__ import annotations
@@ -41,6 +42,12 @@ HIDDEN = 1
 # The columns by which a table of tiles is known (GeoPackage 1.2.1, Table 10).
 TILE_COLUMNS = {"zoom_level", "tile_column", "tile_row", "tile_data"}
 NAMED_BY_NOTHING = "it has the columns of tiles, and no row of contents (as tiles), matrix sets or matrices names it"
+
+# Python hands SQLite its questions in UTF-8.
+NOT_TO_BE_ASKED_FOR = "its name is not UTF-8, so SQLite cannot be asked for it"
+
+# The last line of what is told of a pack that a listing cannot carry.
+NO_LISTING = "it has no listing, so nothing was judged"
 
 SQL_NAMES = {
     listing.REFERENCES: b"gpkg_spatial_ref_sys",
@@ -311,8 +318,7 @@ class Reading:
         self.add_metadata(listing.EXTENSIONS, needed_by=None)
         if self.is_hindered():
             lines = [*self.bad_tables.lines(), *self.bad_cells.lines(), *self.not_judged]
-            lines.append("it has no listing, so nothing was judged")
-            raise trouble_with(self.path, *lines)
+            raise trouble_with(self.path, *lines, NO_LISTING)
         self.note_unnamed(set(map(without_case, names)))
         return PackRows(self.draft.parts(), Origins(self.sources), self.not_judged)
 
@@ -351,6 +357,9 @@ class Reading:
         relation = self.relations.get(without_case(name))
         if relation is None:
             self.not_judged.append(f"tiles of {shown(name)}: they are announced, but there is no such table or view")
+        elif not is_utf_8(name):
+            # The row that names it has the same octets, and with that row the writer refuses the listing.
+            self.not_judged.append(f"tiles of {shown(name)}: {NOT_TO_BE_ASKED_FOR}")
         else:
             self.say(f"reading the {relation.words()}")
             self.add_rows(listing.TILES, relation._replace(name=name), [name])
@@ -453,7 +462,7 @@ class Reading:
         relation = self.relations.get(name)
         if relation is not None and relation.is_view:
             # What cannot be planned names nothing, and what it shows is then told as not judged.
-            with contextlib.suppress(*SQLITE_ERRORS):
+            with contextlib.suppress(Unfit, *SQLITE_ERRORS):
                 self.connection.execute(f"EXPLAIN SELECT * FROM {quoted(relation)}")
 
 
@@ -476,13 +485,18 @@ def quoted(relation: Relation) -> str:
 
 def sql_name(relation: Relation) -> str:
     """A table's name for SQL; inside the quotes nothing but a quote has a meaning."""
-    try:
-        name = relation.name.decode("utf-8")
-    except UnicodeDecodeError as error:
-        raise Unfit("its name is not UTF-8, so SQLite cannot be asked for it") from error
-    if "\0" in name:
+    if not is_utf_8(relation.name):
+        raise Unfit(NOT_TO_BE_ASKED_FOR)
+    if b"\0" in relation.name:
         raise Unfit("its name has a zero octet, so SQLite cannot be asked for it")
-    return in_quotes(name)
+    return in_quotes(relation.name.decode("utf-8"))
+
+
+def is_utf_8(octets: bytes) -> bool:
+    with contextlib.suppress(UnicodeDecodeError):
+        octets.decode("utf-8")
+        return True
+    return False
 
 
 def in_quotes(name: str) -> str:

@@ -194,6 +194,16 @@ class Rows:
                 values.append(self.names[start:start + int(words[at + 1])])
         return values
 
+    def texts(self) -> Iterator[Tuple[Table, int, str, int, int]]:
+        """Every text, by table and then by row: its table, row and field, and where it starts and ends in table 7."""
+        for table in TABLES:
+            named = zip((field.name for field in table.fields), table.places)
+            texts = [(name, at) for name, (kind, at) in named if kind in (Kind.TEXT, Kind.TEXT_OR_NULL)]
+            for row, words in enumerate(table.form.iter_unpack(self.octets[table])):
+                for name, at in texts:
+                    if words[at:at + 2] != NULL:
+                        yield table, row, name, words[at], words[at] + words[at + 1]
+
     def references(self) -> List[Reference]:
         return [Reference(*values) for values in self.all_values(REFERENCES)]  # type: ignore[arg-type]
 
@@ -217,7 +227,7 @@ class Rows:
 
 
 class Listing(Rows):
-    """The rows of a listing that the library has accepted."""
+    """The rows of a listing that the library has accepted, or refused for no more than texts that are no UTF-8."""
 
     def __init__(self, octets: bytes) -> None:
         # After version and length, each table's count and offset; each ends where the next one begins, the last with

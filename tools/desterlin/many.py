@@ -4,18 +4,20 @@ from __future__ import annotations
 
 import contextlib
 import os
-from typing import List, NamedTuple, Sequence, Tuple
+from typing import Dict, List, NamedTuple, Optional, Sequence, Tuple
 
 from .console import Trouble, told, trouble_with
 
 
 class Outcome(NamedTuple):
-    """What became of one pack: the exit status that it gives, a line for the closing summary, and complaints."""
+    """What became of one pack: the exit status that it gives, a line for the closing summary, complaints, and the facts
+    of its trouble."""
 
     path: str
     status: int
     line: str
     complaints: List[str]
+    facts: Optional[Dict[str, object]] = None
 
 
 def packs_in(folder: str) -> Tuple[List[str], List[str]]:

@@ -42,7 +42,8 @@ def pieces_of_trouble(outcome: Outcome, is_json: bool) -> Iterator[str]:
     """The report on a pack that was not judged: for people, the complaints on standard error have all of it."""
     if is_json:
         trouble = "\n".join(outcome.complaints)
-        yield json.dumps({"path": outcome.path, "status": outcome.status, "trouble": trouble}) + "\n"
+        told = {"path": outcome.path, "status": outcome.status, "trouble": trouble, **(outcome.facts or {})}
+        yield json.dumps(told) + "\n"
 
 
 def text_lines(judged: Judged, wanted: Wanted) -> Iterator[str]:

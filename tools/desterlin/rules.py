@@ -88,4 +88,5 @@ REASONS = {
     8: "a contents row's flag, spare or absent srs_id is not as laid down",
     11: "the octets of a table are not whole rows",
     12: "there is no room for it",
+    13: "a text is not well-formed UTF-8",
 }

@@ -64,7 +64,7 @@ def words(known: Known, finding: Finding) -> str:
 
 
 # Of the reasons, those that are about one row; at the others row 0 stands for all of a table.
-OF_ONE_ROW = {7, 8}
+OF_ONE_ROW = {7, 8, 13}
 
 
 def refusal_words(refusal: Refusal, origin: Callable[[Table, int], Optional[str]]) -> str:
