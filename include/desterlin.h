@@ -99,9 +99,9 @@ enum desterlin_table {
 #define DESTERLIN_NAME_OCTETS_MOST 1048576
 
 /*
- * Why a listing is turned away, or not written. Report gives 1 to 8 and 13, checked in that order; verdict gives 9 too,
- * checked before them, and lookup 10 too, checked after them. Write gives 11, 5, 7, 8, 13 and 12, checked in that
- * order. The place is a table number and a row; it is 0 0 where nothing else is said.
+ * Why a listing is turned away, or not written. Report gives 1 to 8 and 13, verdict 9 too, lookup 10 too; they are
+ * checked in the order 9, 1 to 8, 13, 10. Write gives 11, 5, 7, 8, 13 and 12, checked in that order. The place is a
+ * table number and a row; it is 0 0 where nothing else is said.
  */
 enum desterlin_reason {
     DESTERLIN_ACCEPTED = 0,            /* no refusal; the place is 0 0 */

@@ -5,15 +5,19 @@ from __future__ import annotations
 import itertools
 import json
 import random
+import re
 import sqlite3
 import struct
 import unittest
 from pathlib import Path
 from typing import Dict, List, Sequence
 
-from packs import GPKG_LISTING, PACKS, Called, InRoom, Rows, good, judged_by_second, loaded, make_pack, needs_library
+from packs import (
+    PACKS, SECOND, Called, InRoom, Ran, Rows, good, judged_by_second, loaded, make_pack, needs_library,
+)
 from test_listing import CONTENTS, DATE, EXTENSIONS, MATRICES, SETS, SRS, planted
 from test_not_judged import LOOSE, MISSING, NAMED_BY_NOTHING
+from test_write import EXAMPLE, PAGE
 
 from desterlin import library
 from desterlin.console import shown_around
@@ -65,6 +69,110 @@ def a_text_of_its_own_for_each_field() -> bytes:
             values: List[Value] = [b"text%02d" % next(numbers) if "text" in kind.value else 0 for kind in kinds]
             draft.add(table, values)
     return laid(draft.parts())
+
+
+def put(octets: str, at: int, listing: bytes = EXAMPLE) -> bytes:
+    """The listing with other octets from this place on."""
+    new = bytes.fromhex(octets)
+    return listing[:at] + new + listing[at + len(new):]
+
+
+def definition(start: int, length: int, listing: bytes) -> bytes:
+    return put(struct.pack("<2I", start, length).hex(), 88, listing)
+
+
+def scope_length(length: int, listing: bytes) -> bytes:
+    return put(struct.pack("<I", length).hex(), 164, listing)
+
+
+def at_172(octets: str) -> List[bytes]:
+    return [put(character, 172) for character in octets.split()]
+
+
+LATIN_EPSG, LATIN_WRITE, ACCENT = put("c4", 168), put("c4", 229), put("c3a9", 172)
+FLAG_2 = "02"
+
+# What docs/LISTING.md has in the table of request 2026-03, by its words.
+CASES: Dict[str, List[bytes]] = {
+    '`c4` for the E of "EPSG" (at 168)': [LATIN_EPSG],
+    '`c4` for the f of "farm" (at 172)': [put("c4", 172)],
+    '`c4` for the last e of "read-write" (at 229)': [LATIN_WRITE],
+    "the same with scope's length 9, so that no text covers it": [scope_length(9, LATIN_WRITE)],
+    '`c3 a9` for the "fa" of "farm"': [ACCENT],
+    "the same, and definition (at 88) with start 4, length 1; or start 5, length 1":
+        [definition(4, 1, ACCENT), definition(5, 1, ACCENT)],
+    "the same, and definition with start 5, length 0": [definition(5, 0, ACCENT)],
+    "`ed 9f bf`, `f4 8f bf bf`, `e0 a0 80` or `f0 90 80 80` from 172 on": at_172("ed9fbf f48fbfbf e0a080 f0908080"),
+    "`ed a0 80`, `f4 90 80 80`, `e0 9f bf`, `f0 8f bf bf` or `c1 bf` from 172 on":
+        at_172("eda080 f4908080 e09fbf f08fbfbf c1bf"),
+    '`c3 a9` for the m of "farm" and the t of "tiles" (at 175): the end of a text cuts it': [put("c3a9", 175)],
+    "`00`, `1b`, `ef bb bf` or `ef bf bf` from 172 on": at_172("00 1b efbbbf efbfbf"),
+    "`c4` at 168, at 172 and at 229": [put("c4", 229, put("c4", 172, LATIN_EPSG))],
+    "`c4` at 168 (table 1), and flag 2 (table 2)": [put(FLAG_2, 128, LATIN_EPSG)],
+    "`c4` at 168 (table 1), and scope's length 11 (table 6)": [scope_length(11, LATIN_EPSG)],
+    '`c3 89` for the EP of "EPSG": the organization is another, in any letter case': [put("c389", 168)],
+}
+# Those that are no report, with the words that the second program takes.
+CALLS: Dict[str, List[object]] = {
+    "verdict on code 100 with `c4` at 168": ["verdict", 100],
+    "lookup on contents row 1 with `c4` at 168": ["lookup", 1, 0, 0, 0],
+}
+
+
+@needs_library
+class ThePage(unittest.TestCase):
+    """What docs/LISTING.md says of UTF-8."""
+
+    def test_its_cases_are_what_the_library_and_the_second_program_say(self) -> None:
+        table = PAGE.split("**Request 2026-03")[1].split("**The writer: ")[0]
+        answers = dict(re.findall(r"^\| 3\.\d \| (.*) \| ((?:accepted|refused).*) \|$", table, re.M))
+        self.assertEqual(set(answers), {*CASES, *CALLS})
+        for words, listings in CASES.items():
+            for listing in listings:
+                with self.subTest(words, listing=listing[168:].hex()):
+                    said = Ran([library.program(), "report"], listing).out
+                    self.assertEqual(said, judged_by_second(listing))
+                    self.check(said.splitlines(), answers[words])
+        for words, call in CALLS.items():
+            self.assertEqual(Ran([SECOND, *call], LATIN_EPSG).out, f"{answers[words]}\n")
+
+    def check(self, lines: List[str], answer: str) -> None:
+        if answer.startswith("refused"):
+            self.assertEqual(lines, [answer])
+        else:
+            self.assertRegex(lines[-1], "^total ")
+            self.assertEqual("finding 111 0 -" in lines, answer == "accepted, with 111")
+
+    def test_its_characters_are_those_of_python(self) -> None:
+        table = PAGE.split("## Well-formed UTF-8")[1].split("So these are not")[0]
+        lines = re.findall(r"^\| ([0-9a-f]{2}.*) \|$", table, re.M)
+        self.assertEqual(len(lines), 9)
+        behind: Dict[int, List[List[int]]] = {}
+        for line in lines:
+            first, *others = [octets_in(cell) for cell in line.split("|") if cell.strip()]
+            behind.update(dict.fromkeys(first, others))
+        for first in range(256):
+            if first in behind:
+                self.check_character(first, behind[first])
+            else:
+                tails = [b"", b"\x80", b"\x80\x80", b"\x90\x80\x80", b"\xbf\xbf\xbf"]
+                self.assertFalse(any(is_decoded(bytes([first]) + tail) for tail in tails), first)
+
+    def check_character(self, first: int, ranges: "List[List[int]]") -> None:
+        """Both ends of each range are good behind this octet, one beyond is not, and neither is what breaks off."""
+        ends = itertools.product(*((octets[0], octets[-1]) for octets in ranges))
+        for character in [bytes([first, *tail]) for tail in ends]:
+            self.assertTrue(is_decoded(character), character)
+            for at, octets in enumerate(ranges, 1):
+                others = [character[:at] + bytes([other]) for other in (octets[0] - 1, octets[-1] + 1)]
+                spoilt = [character[:at], *(start + character[at + 1:] for start in others)]
+                self.assertFalse(any(map(is_decoded, spoilt)), character)
+
+
+def octets_in(cell: str) -> List[int]:
+    """Of '80 to bf', or of 'ee, ef'."""
+    numbers = [int(word, 16) for word in re.findall(r"\b[0-9a-f]{2}\b", cell)]
+    return list(range(numbers[0], numbers[-1] + 1))
 
 
 @needs_library

@@ -224,6 +224,13 @@ class OneWordForEachThing(unittest.TestCase):
         numbers = re.findall(r"^\| (\d+) \| [^|]* \| [^|]* \|$", page.split("## Why a listing is refused")[1], re.M)
         # 9 and 10 are for verdicts and lookups, which no tool asks for.
         self.assertEqual([int(number) for number in numbers if number not in ("9", "10")], list(REASONS))
+        header = (ROOT / "include" / "desterlin.h").read_text(encoding="utf-8")
+        named = dict(re.findall(r"^    (DESTERLIN_REFUSED_\w+) = (\d+)", header, re.M))
+        self.assertEqual(list(named.values()), numbers)
+        # The example does not write, which alone has 11 and 12.
+        example = (ROOT / "examples" / "viewer.c").read_text(encoding="utf-8")
+        told = [named[name] for name in re.findall(r"^    case (DESTERLIN_REFUSED_\w+): return ", example, re.M)]
+        self.assertEqual(told, [number for number in numbers if number not in ("11", "12")])
 
 
 if __name__ == "__main__":

@@ -98,6 +98,8 @@ class InC:
         return Call(ran.octets[0], *(octets[GUARD:-GUARD] for octets in shown))
 
 
+LATIN = changed(PARTS, 7, b"\xc4" + PARTS[6][1:])
+
 # What docs/LISTING.md has in the table of the writer, by its words: parts and the size of the buffer.
 CASES: "Dict[str, List[Tuple[Parts, int]]]" = {
     "the example": [(PARTS, ROOM)],
@@ -109,10 +111,17 @@ CASES: "Dict[str, List[Tuple[Parts, int]]]" = {
     "257 rows in table 1, all octets 0": [(changed(NOTHING, 1, rows_of_nothing(257)), ROOM)],
     "1,048,577 name octets, and flag 2 in table 2": [(changed(flag_2(PARTS), 7, bytes(1_048_577)), ROOM)],
     "the example with scope's length 11 (table 6) and flag 2 (table 2)": [(put(flag_2(PARTS), 6, 28, 11), ROOM)],
+    'the example with `c4` for the E of "EPSG" (table 1) and flag 2 (table 2)': [(flag_2(LATIN), ROOM)],
     "the example with flag 2 alone, and a buffer of no octets": [(flag_2(PARTS), 0)],
+    'the example with `c4` for the E of "EPSG" alone, and a buffer of no octets': [(LATIN, 0)],
+    "the example with a name octet `ff` more, which no text covers": [(changed(PARTS, 7, PARTS[6] + b"\xff"), ROOM)],
     "the example with a buffer of 230 octets, or of more": [(PARTS, 230), (PARTS, 231), (PARTS, LISTING_MOST + 1)],
     "the example with a buffer of 229 octets": [(PARTS, 229)],
 }
+
+
+# The total length and the count of table 7 are one more than in the example.
+ONE_NAME_OCTET_MORE = EXAMPLE[:4] + struct.pack("<I", 231) + EXAMPLE[8:56] + struct.pack("<I", 63) + EXAMPLE[60:]
 
 
 @needs_library
@@ -132,6 +141,7 @@ class CalledFromC(unittest.TestCase):
         """A listing stands at the buffer's front, and what follows it is as it was; a refusal leaves all of it."""
         listings = {
             "written: its 230 octets": EXAMPLE,
+            "written: its 231 octets": ONE_NAME_OCTET_MORE + b"\xff",
             "written: the header alone": (SAMPLES / "header-alone.listing").read_bytes(),
             "written": struct.pack("<16I", 1, 8_256, 256, 64, *[0, 8_256] * 6) + bytes(8_192),
         }
@@ -152,7 +162,7 @@ class CalledFromC(unittest.TestCase):
                     self.check(answer, parts, room)
 
     def test_too_short_an_answer_has_nothing_written_whatever_else_is_wrong(self) -> None:
-        for parts in [PARTS, flag_2(PARTS), changed(PARTS, 1, b"x")]:
+        for parts in [PARTS, flag_2(PARTS), changed(PARTS, 1, b"x"), LATIN]:
             for size in [0, 15]:
                 call = self.in_c.call(parts, answer=size)
                 self.assertEqual(call, Call(0, MARK * size, MARK * ROOM))
