@@ -32,7 +32,7 @@ extern "C" {
 
 /*
  * The edition of this header and of the library that goes with it. It rises by one with each request that changes what
- * a caller has compiled: a call, a word of an answer, a size, a code. desterlin.pc has the same one.
+ * a caller has compiled: a call, a word of an answer, a size, a code, a reason. desterlin.pc has the same one.
  */
 #define DESTERLIN_VERSION 3
 

@@ -255,6 +255,11 @@ class Texts(unittest.TestCase):
         self.assertEqual([(text.row, text.octets, text.fields) for text in found.told],
                          [(0, b"\xff", 3), (3, b"\xfe", 1)])
 
+    def test_the_octet_at_fault_is_the_first_behind_the_last_character(self) -> None:
+        faults = {"ff": 0, "61ff": 1, "c3c3a9": 0, "c3a9a9": 2, "61f48fbf": 1, "e28241": 0, "f0908080eda080": 4, "7fc3": 1}
+        found = ill_texts(Listing(laid(organizations(list(map(bytes.fromhex, faults))))))
+        self.assertEqual({text.octets.hex(): text.fault for text in found.told}, faults)
+
     def test_as_many_as_there_may_be_each_of_nearly_a_megabyte(self) -> None:
         """Text by text these would be 200,000,000,000 octets."""
         texts = [struct.pack("<2I24x", at, 750_000) for at in range(TILES.most)]
