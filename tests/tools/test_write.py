@@ -190,7 +190,7 @@ class WrittenBack(unittest.TestCase):
         accepted = [path.stem for path in sorted(SAMPLES.glob("*.listing")) if self.is_tried(path.read_bytes())]
         self.assertEqual(
             accepted, ["doubled-address", "good-pack", "header-alone", "longest", "many-findings", "many-kinds",
-                       "oversize"])
+                       "named-in-utf-8", "oversize"])
 
     def test_made_listings(self) -> None:
         tried = [self.is_tried(Ran([SECOND, "make", seed]).octets) for seed in range(60)]
