@@ -37,15 +37,15 @@ static uint64_t telling_number(struct chance *chance, size_t size)
     return numbers[draw_below(chance, sizeof numbers / sizeof numbers[0])];
 }
 
-/* The first and the last letters of two, three and four octets, and the last before the surrogates. Another damage to
-   their octets, or to the text that has them, makes them ill. */
-static void put_telling_letter(struct chance *chance, uint8_t *octets)
+/* The first and the last characters of two, three and four octets, and the last before the surrogates. Damage to
+   their octets, or to a text that has them, makes them ill. */
+static void put_telling_character(struct chance *chance, uint8_t *octets)
 {
-    static const char *const letters[] = {
+    static const char *const characters[] = {
         "\xc2\x80", "\xdf\xbf", "\xe0\xa0\x80", "\xed\x9f\xbf", "\xef\xbf\xbf", "\xf0\x90\x80\x80", "\xf4\x8f\xbf\xbf"
     };
-    const char *letter = letters[draw_below(chance, sizeof letters / sizeof letters[0])];
-    memcpy(octets, letter, strlen(letter));
+    const char *character = characters[draw_below(chance, sizeof characters / sizeof characters[0])];
+    memcpy(octets, character, strlen(character));
 }
 
 /* A place for so many octets, most often behind the header: a spoiled header has the rest never read. */
@@ -84,7 +84,7 @@ static size_t one_damage(struct chance *chance, uint8_t *octets, size_t size, si
         return size;
     }
     case 7:
-        put_telling_letter(chance, octets + place + draw_below(chance, 5));
+        put_telling_character(chance, octets + place + draw_below(chance, 5));
         return size;
     case 8:
         return draw_below(chance, 4) == 0 ? draw_below(chance, size + 1) : size - draw_below(chance, 9);

@@ -383,9 +383,12 @@ class Stack(InRoom):
         sources = [TESTS / "stack.c", TESTS / "walled.c"]
         ran = Ran([compiler, *flags, "-Iinclude", "-Itests/tools", *sources, library.archive(), "-o", BUILT / "stack"])
         self.assertEqual((ran.status, ran.err), (0, ""))
-        large = self.room / "large.listing"
-        large.write_bytes(Ran([SECOND, "full", "pyramids", 262_144]).octets)
-        ran = Ran([BUILT / "stack", SAMPLES / "many-kinds.listing", SAMPLES / "longest.listing", large])
+        # The last three have texts that take their reader longest, in ASCII, in other letters and among stray octets.
+        kinds = {"pyramids": 262_144, "overlapping": 1_000, "overlapping-letters": 1_000, "scattered": 1_000}
+        for kind, tiles in kinds.items():
+            (self.room / kind).write_bytes(Ran([SECOND, "full", kind, tiles]).octets)
+        made = [self.room / kind for kind in kinds]
+        ran = Ran([BUILT / "stack", SAMPLES / "many-kinds.listing", SAMPLES / "longest.listing", *made])
         self.assertEqual((ran.status, ran.err), (0, ""), ran.out)
 
 
