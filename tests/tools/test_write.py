@@ -310,11 +310,16 @@ class RefusalsInWords(InRoom):
             self.check_told(12, "")
 
     def test_every_reason_of_the_writer_is_tried(self) -> None:
-        header = (ROOT / "include" / "desterlin.h").read_text(encoding="utf-8")
-        said = re.findall(r"Write gives ([\d, and]+), checked in that order", header)
-        numbers = [int(number) for words in said for number in re.findall(r"\d+", words)]
         # test_texts.py has 13.
-        self.assertEqual(list(dict.fromkeys([number for number, _, _ in SPOILT] + [13, 12])), numbers)
+        tried = list(dict.fromkeys([number for number, _, _ in SPOILT] + [13, 12]))
+        for page, words in {
+            "include/desterlin.h": r"Write gives ([\d, and]+), checked in that order",
+            "docs/API.md": r"The refusals are ([\d, and]+), checked in this order",
+            "docs/LISTING.md": r"The writer gives ([\d, and]+): ",
+        }.items():
+            said = re.findall(words, (ROOT / page).read_text(encoding="utf-8"))
+            numbers = [[int(number) for number in re.findall(r"\d+", list_of_them)] for list_of_them in said]
+            self.assertEqual(numbers, [tried], page)
 
     def stand_in(self, does: str) -> "mock._patch[mock.MagicMock]":
         program = self.room / "stand-in"
