@@ -25,7 +25,8 @@ pub const HOSTILE_KINDS: [&str; 7] = [
 /// * `scattered`: letters alone, between octets that are none;
 /// * `ends-at-stray`: long parts that end before an 80 that no text covers;
 /// * `begins-late`: long parts that begin a few octets behind one that is none;
-/// * `beside`: 125 octets of mixed letters, beside a longer stretch.
+/// * `beside`: 253 octets of mixed letters, beside a longer stretch that begins in
+///   the same 256 octets.
 pub fn hostile(kind: &str, tiles: usize) -> Option<Draft> {
     let mut random = Random::new(tiles as u64);
     let size = (4 * tiles).max(4_096);
@@ -123,15 +124,15 @@ fn begins_late(random: &mut Random, size: usize, tiles: usize) -> NamesAndTexts 
 
 fn beside(random: &mut Random, size: usize, tiles: usize) -> NamesAndTexts {
     let mut names = Vec::with_capacity(size);
-    let stretches = size / 256;
+    let stretches = size / 512;
     for _ in 0..stretches {
-        let beside = "a".repeat(128);
-        for stretch in [letters(random, 125), beside] {
+        let beside = "a".repeat(256);
+        for stretch in [letters(random, 253), beside] {
             names.push(0xff);
             names.extend(stretch.bytes());
         }
         names.push(0xff);
     }
-    let texts = (0..tiles).map(|_| span(256 * random.below(stretches) + 1, 125)).collect();
+    let texts = (0..tiles).map(|_| span(512 * random.below(stretches) + 1, 253)).collect();
     (names, texts)
 }
