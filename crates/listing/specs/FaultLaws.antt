@@ -1,21 +1,22 @@
 -- Reasons 7 and 13 in one search: each text is looked at once for both, and where one is at fault, a search for 7 alone says which of them it is.
 use Prim.Native.Nat.{ℕ, _+_, _*_, _<_, _≤_}
-use mathlib.Core.Path.{_≡_, refl, sym, ap, _∙_}
+use mathlib.Core.Path.{_≡_, refl, sym, ap, _∙_, subst}
 use mathlib.Core.List.{List}
-use mathlib.Core.Bool.{Bool, true, false, _&&_, _||_, false≢true}
+use mathlib.Core.Bool.{Bool, true, false, not, _&&_, _||_, false≢true}
+use native.Mathlib.Nat.{le-refl}
 use native.Mathlib.Omega.{arith}
-use borrow.Author.Tests.{lt-ltb, le-ltb, leb-true, ne-eqb}
-use lib.Dec.{ltb, leb, eqb}
-use lib.ListN.{length, getD}
+use borrow.Author.Tests.{lt-ltb, le-ltb, ne-eqb, not-false}
+use lib.Dec.{ltb, eqb}
+use lib.ListN.{length}
 use Rattle.octets.specs.Search.{first, any}
-use Rattle.octets.specs.SearchLaws.{first-lowest, first-agree, none-at, any-none, any-agree, any-or, finds, misses}
+use Rattle.octets.specs.SearchLaws.{Seeking, cursor-more, first-lowest, first-agree, none-at, any-none, any-agree, any-or, finds, misses}
 use Rattle.octets.specs.Texts.{textOf, textAt, nameAt, outside}
 use Rattle.octets.specs.declared.Name.{Name}
 use Rattle.octets.specs.declared.Text.{Text}
-use Rattle.utf8.specs.PlainLaws.{Plain, plain-part}
-use Rattle.utf8.specs.MarkLaws.{Marks}
+use Rattle.utf8.specs.MarkLaws.{Clear}
 use Rattle.listing.specs.Listing.{row, rows}
 use Rattle.listing.specs.Refusals.{ill, textBase, textCount, nullCount, faultyText, faultyRow, lowestFaultyRow, faultyTable}
+use Rattle.listing.specs.declared.Cursor.{Cursor}
 use Rattle.listing.specs.declared.TextFault.{TextFault}
 use Rattle.listing.specs.declared.TextFault.the-variants.{Outside, Either}
 
@@ -98,45 +99,71 @@ module _ (f g : Bool → Text → Bool) (ts : ℕ → List ℕ) where
         ∙ first-agree (faultyRow (either f g) n (ts n)) (faultyRow g n (ts n)) (rows n (ts n)) (λ r b. let u : faultyRow f n (ts n) r ≡ false = no-row n (h .some) l r b in row-or n r ∙ simp u)
         ∙ ap (λ (t : ℕ). first (faultyRow g t (ts t)) (rows t (ts t))) second-table
 
--- ---- a text that need not be looked at, in tables whose rows have one
--- the name that was looked at last has no fault
-pub record Fine (fault : Bool → Text → Bool) (nulls texts : ℕ) (n : Name) : Type 0 where
-  pub fine : texts ≡ 1 → fault (ltb 0 nulls) (textOf (n .start) (n .len)) ≡ false
-
-module _ (fault : Bool → Text → Bool) (nulls texts : ℕ) (t : List ℕ) (at : ℕ) (now : Name) (w : now ≡ nameAt t at) where
-  only-text : faultyText fault nulls t at 0 ≡ fault (ltb 0 nulls) (textOf (now .start) (now .len))
-  unfolding faultyText textAt
-  only-text = let e : at + 8 * 0 ≡ at = omega arith in simp (e, w)
-
-  fine-only : texts ≡ 1 → fault (ltb 0 nulls) (textOf (now .start) (now .len)) ≡ false → false ≡ any (faultyText fault nulls t at) texts
-  fine-only e z = sym (any-none (faultyText fault nulls t at) texts (λ i l. let d : i ≡ 0 = omega arith in ap (faultyText fault nulls t at) d ∙ only-text ∙ z))
-
-  -- the same two numbers as the last name's
-  pub fine-again : (last : Name) → Fine fault nulls texts last → texts ≡ 1 → now .start ≡ last .start → now .len ≡ last .len → false ≡ any (faultyText fault nulls t at) texts
-  fine-again last h e p q = fine-only e (simp (p, q) (h .fine e))
-
-  pub fine-next : (b : Bool) → b ≡ any (faultyText fault nulls t at) texts → b ≡ false → Fine fault nulls texts now
-  fine-next b e f = record { fine = λ q. sym only-text ∙ none-at (faultyText fault nulls t at) texts (sym e ∙ f) 0 (omega arith) }
-
--- octets that are plain, of a text that is then not NULL
-plain-fine : (fault : TextFault) (names : List ℕ) (plain start len : ℕ) (nullable : Bool) → Plain names plain → start + len ≤ plain → asked fault names nullable (textOf start len) ≡ false
-plain-fine fault names plain start len nullable h l = by fault
+-- ---- rows that need no look: each has one text, and that is clear
+-- a clear text has no fault, whether it may be NULL or not
+clear-text : (fault : TextFault) (names : List ℕ) (start len : ℕ) (nullable : Bool) → Clear names start len → asked fault names nullable (textOf start len) ≡ false
+clear-text fault names start len nullable h = by fault
   where
     there : eqb start 4294967295 ≡ false
-    there = ne-eqb start 4294967295 (λ e. omega (arith, h .small))
+    there = ne-eqb start 4294967295 (λ e. omega (arith, h .present))
 
     inside : ltb (length names) (start + len) ≡ false
-    inside = le-ltb (length names) (start + len) (omega (arith, h .within))
+    inside = le-ltb (length names) (start + len) (h .within)
 
     by : (fault : TextFault) → asked fault names nullable (textOf start len) ≡ false
     by Outside = simp (there, inside)
-    by Either = simp (there, inside, plain-part names plain start len h l)
+    by Either = simp (there, inside, h .well)
 
-pub fine-plain : (fault : TextFault) (names marks : List ℕ) (nulls texts : ℕ) (t : List ℕ) (at : ℕ) (now : Name) (b : Bool)
-    → Marks names marks → texts ≡ 1 → b ≡ leb (now .start + now .len) (getD marks 0 0) → b ≡ true → now ≡ nameAt t at → false ≡ any (faultyText (asked fault names) nulls t at) texts
-fine-plain fault names marks nulls texts t at now b h e l f w =
-    fine-only (asked fault names) nulls texts t at now w e (plain-fine fault names (getD marks 0 0) (now .start) (now .len) (ltb 0 nulls) (h .plain) (leb-true (now .start + now .len) (getD marks 0 0) (sym l ∙ f)))
+abbrev pub ClearAt : List ℕ → List ℕ → ℕ → Type 0
+ClearAt names t at = Clear names (nameAt t at .start) (nameAt t at .len)
 
--- the empty name at 0 has no fault
-pub fine-start : (fault : TextFault) (names marks : List ℕ) (nulls texts : ℕ) (n : Name) → Marks names marks → n .start ≡ 0 → n .len ≡ 0 → Fine (asked fault names) nulls texts n
-fine-start fault names marks nulls texts n h e f = record { fine = λ q. plain-fine fault names (getD marks 0 0) (n .start) (n .len) (ltb 0 nulls) (h .plain) (omega arith) }
+clear-row : (fault : TextFault) (names t : List ℕ) (nulls at : ℕ) → ClearAt names t at → any (faultyText (asked fault names) nulls t at) 1 ≡ false
+unfolding faultyText textAt
+clear-row fault names t nulls at h = any-none (faultyText (asked fault names) nulls t at) 1 (λ i l. let d : i ≡ 0 = omega arith in ap (faultyText (asked fault names) nulls t at) d ∙ only)
+  where
+    only : faultyText (asked fault names) nulls t at 0 ≡ false
+    only = let e : at + 8 * 0 ≡ at = omega arith in simp e (clear-text fault names (nameAt t at .start) (nameAt t at .len) (ltb 0 nulls) h)
+
+-- rows of some octets, with texts at a place of each: one of the texts has a fault
+unfoldable pub rowFault : (Bool → Text → Bool) → ℕ → ℕ → ℕ → ℕ → List ℕ → ℕ → Bool
+rowFault fault size base texts nulls t i = any (faultyText fault nulls t (size * i + base)) texts
+
+-- a table's rows are such
+pub row-fault : (fault : Bool → Text → Bool) (k : ℕ) (t : List ℕ) (size base texts nulls n r : ℕ) → size ≡ row k → base ≡ textBase k → texts ≡ textCount k → nulls ≡ nullCount k → n ≡ rows k t
+    → r ≡ first (rowFault fault size base texts nulls t) n → r ≡ first (faultyRow fault k t) (rows k t)
+unfolding rowFault faultyRow
+row-fault fault k t size base texts nulls n r e f g h q w =
+    w ∙ ap (first (rowFault fault size base texts nulls t)) q ∙ first-agree (rowFault fault size base texts nulls t) (faultyRow fault k t) (rows k t) (λ i l. cc)
+
+-- the rows before an end have room for their texts
+pub record Roomy (t : List ℕ) (size base texts end : ℕ) : Type 0 where
+  pub room : (i : ℕ) → i < end → size * i + base + 8 * texts ≤ length t
+
+pub roomy-same : (t : List ℕ) (size base texts n m : ℕ) → Roomy t size base texts n → m ≡ n → Roomy t size base texts m
+roomy-same t size base texts n m h e = subst (λ (n : ℕ). Roomy t size base texts n) (sym e) h
+
+-- a cursor has passed rows whose one text is clear: whatever no such row has, a search has not met on the way
+pub record Passed (names t : List ℕ) (size base texts : ℕ) (c d : Cursor) : Type 0 where
+  pub after : c .row ≤ d .row
+  pub end : d .end ≡ c .end
+  pub on : (p : ℕ → Bool) → ((i : ℕ) → texts ≡ 1 → ClearAt names t (size * i + base) → p i ≡ false) → Seeking p (c .row) (c .end) → Seeking p (d .row) (d .end)
+
+module _ (names t : List ℕ) (size base texts : ℕ) where
+  pub passed-none : (c : Cursor) → Passed names t size base texts c c
+  passed-none c = record { after = le-refl (c .row); end = refl; on = λ p h s. s }
+
+  pub passed-more : (a c d : Cursor) (here : Name) (b : Bool) → Passed names t size base texts a c → texts ≡ 1 → here ≡ nameAt t (size * c .row + base)
+      → (b ≡ true → Clear names (here .start) (here .len)) → not b ≡ false → c .row < c .end → d .row ≡ c .row + 1 → d .end ≡ c .end → Passed names t size base texts a d
+  passed-more a c d here b h o w s n l u v = record {
+    after = omega (arith, h .after, u);
+    end = v ∙ h .end;
+    on = λ p g k. cursor-more p (c .row) (d .row) (c .end) (d .end) false (h .on p g k) l (sym (g (c .row) o (subst (λ (x : Name). Clear names (x .start) (x .len)) w (s (not-false b n))))) refl u v;
+  }
+
+  -- a search for rows at fault
+  pub passed-on : (fault : TextFault) (nulls : ℕ) (c d : Cursor) → Passed names t size base texts c d
+      → Seeking (rowFault (asked fault names) size base texts nulls t) (c .row) (c .end) → Seeking (rowFault (asked fault names) size base texts nulls t) (d .row) (d .end)
+  unfolding rowFault
+  passed-on fault nulls c d h =
+      h .on (rowFault (asked fault names) size base texts nulls t)
+      (λ i o w. ap (any (faultyText (asked fault names) nulls t (size * i + base))) o ∙ clear-row fault names t nulls (size * i + base) w)

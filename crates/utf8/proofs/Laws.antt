@@ -4,7 +4,7 @@ use mathlib.Core.Path.{_≡_, sym, ap, _∙_, subst}
 use mathlib.Core.List.{List, [], _∷_}
 use mathlib.Core.Bool.{Bool, true, false, cond, not, _&&_}
 use native.Mathlib.Omega.{arith}
-use borrow.Author.Tests.{le-leb, eq-eqb, ne-eqb, not-false}
+use borrow.Author.Tests.{le-leb, leb-true, eq-eqb, ne-eqb, not-false}
 use lib.Dec.{leb}
 use lib.ListN.{length, drop, getD, List·getD-eq-default}
 use mir.Syntax.{w32}
@@ -15,7 +15,7 @@ use Rattle.utf8.specs.CharacterLaws.{continuation, range-below, one, two
 use Rattle.utf8.specs.CoverLaws.{Stretch, Ends, stretch-join, ends-lead, ends-past}
 use Rattle.utf8.specs.StepLaws.{second, three-law, four-law, Step, Walking}
 use Rattle.utf8.specs.PlainLaws.{Plain}
-use Rattle.utf8.specs.MarkLaws.{Marks, marks-ascii, marks-known, marks-ends}
+use Rattle.utf8.specs.MarkLaws.{Border, Marks, Clear, clear-ascii}
 
 module _ (low high x : ℕ) where
   pub within-no : x < low → false ≡ inRange low high x
@@ -95,12 +95,15 @@ past-end s p l = sym (List·getD-eq-default s 0 l)
 pub size-by : (s : List ℕ) (p r b c d : ℕ) → p < length s → b ≡ getD s (p + 1) 0 → c ≡ getD s (p + 2) 0 → d ≡ getD s (p + 3) 0 → r ≡ size (getD s p 0 ∷ b ∷ c ∷ d ∷ []) → r ≡ size (drop p s)
 size-by s p r b c d l e f g h = h ∙ (cc) ∙ size-at s p l
 
--- ---- what the marks does not show is looked at octet by octet
+-- ---- what the marks do not show is looked at octet by octet
 pub plain-fits : (s : List ℕ) (n : ℕ) → Plain s n → Fits w32 n
 plain-fits s n h = record { fits = omega (arith, h .small) }
 
-pub plain-not : (s m : List ℕ) (start len : ℕ) (r : Bool) → Marks s m → r ≡ leb (start + len) (getD m 0 0) → r ≡ true → false ≡ not (wellFormed (part s start len))
-plain-not s m start len r k h e = sym (ap not (marks-ascii s m start len k (sym h ∙ e)))
+pub clear-plain : (s m : List ℕ) (start len : ℕ) (r : Bool) → Marks s m → r ≡ leb (start + len) (getD m 0 0) → r ≡ true → Clear s start len
+clear-plain s m start len r k h e = clear-ascii s m start len k (leb-true (start + len) (getD m 0 0) (sym h ∙ e))
+
+pub clear-not : (s : List ℕ) (start len : ℕ) (r : Bool) → (r ≡ true → Clear s start len) → r ≡ true → false ≡ not (wellFormed (part s start len))
+clear-not s start len r h e = sym (ap not (h e .well))
 
 pub known-not : (s : List ℕ) (start len : ℕ) (r : Bool) → (r ≡ true → wellFormed (part s start len) ≡ true) → r ≡ true → false ≡ not (wellFormed (part s start len))
 known-not s start len r h e = sym (ap not (h e))
@@ -108,17 +111,8 @@ known-not s start len r h e = sym (ap not (h e))
 pub inner-past : (s : List ℕ) (p : ℕ) → length s ≤ p → false ≡ continuation (getD s p 0)
 inner-past s p l = sym (ap continuation (List·getD-eq-default s 0 l) ∙ range-below 0x80 0xBF 0 (omega arith))
 
--- what the marks show, by the numbers that the code has
-pub known-by : (s m : List ℕ) (i v start len : ℕ) (x y : Bool) → Marks s m → v ≡ getD m (2 * i + 1) 0 → 256 * i + v % 256 ≤ start → start + len ≤ v / 256 → start + len ≤ length s
-    → x ≡ continuation (getD s start 0) → x ≡ false → y ≡ continuation (getD s (start + len) 0) → y ≡ false → wellFormed (part s start len) ≡ true
-known-by s m i v start len x y h e p q l a b c d = marks-known s m i v start len h e p q l (sym a ∙ b) (ends-lead s (start + len) (sym c ∙ d))
-
-pub known-whole : (s m : List ℕ) (i v start len : ℕ) (x : Bool) → Marks s m → v ≡ getD m (2 * i + 1) 0 → 256 * i + v % 256 ≤ start → v / 256 ≡ start + len → start + len ≤ length s
-    → x ≡ continuation (getD s start 0) → x ≡ false → wellFormed (part s start len) ≡ true
-known-whole s m i v start len x h e p q l a b = marks-known s m i v start len h e p (omega arith) l (sym a ∙ b) (marks-ends s m i v (start + len) h e q)
-
-pub walk-ends : (s : List ℕ) (a p : ℕ) → Walking s a p → Ends s a → Ends s p
-walk-ends s a p w e = w .ends e
+pub walk-border : (s : List ℕ) (a p : ℕ) → Walking s a p → Ends s a → Border s p
+walk-border s a p w e = record { ends = w .ends e; within = w .within }
 
 pub cell-goes : (s : List ℕ) (first c : ℕ) (b : Bool) → Stretch s (8 * first) (8 * c) → (b ≡ true → Stretch s (8 * c) (8 * c + 8)) → not b ≡ false → Stretch s (8 * first) (8 * (c + 1))
 cell-goes s first c b t h e =
@@ -128,5 +122,5 @@ cell-goes s first c b t h e =
 pub halts : (s : List ℕ) (p r : ℕ) → Step s p r → r ≡ 0 → size (drop p s) ≡ 0
 halts s p r h e = h .none e
 
-pub ends-next : (s : List ℕ) (z : ℕ) → Ends s z → (z < length s → size (drop z s) ≡ 0) → z < length s → Ends s (z + 1)
-ends-next s z b h l = ends-past s z b (h l)
+pub ends-next : (s : List ℕ) (z : ℕ) → Border s z → (z < length s → size (drop z s) ≡ 0) → z < length s → Ends s (z + 1)
+ends-next s z b h l = ends-past s z (b .ends) (h l)

@@ -7,8 +7,6 @@ use mathlib.Core.Logic.{_⊎_, inl, inr, ⊎-elim}
 use native.Mathlib.Nat.{le-refl, lt-of-not-le, lt-of-lt-of-le, mod-lt, mod-eq-of-lt, div-eq-of-lt, zero-div, add-mul, one-mul, mul-comm, pow-suc}
 use native.Mathlib.Decide.{decLe, ℕ-discrete}
 use native.Mathlib.Omega.{arith}
-use borrow.Author.Tests.{leb-true}
-use lib.Dec.{leb}
 use lib.ListN.{length, getD, set, replicate, getD-replicate, length-replicate, List·getD-eq-default}
 use lib.Pow.{pow-pos, pow-lt, pow-mono, pow-add, split, high}
 use lib.Seq.{getD-set-same, getD-set-other, set-out}
@@ -22,10 +20,15 @@ use Rattle.utf8.specs.PlainLaws.{Plain, plain-start, plain-part}
 abbrev pub bit : ℕ → ℕ → ℕ
 bit w j = w / 2 ^ j % 2
 
+-- a place in the octets past which no character goes on
+pub record Border (s : List ℕ) (e : ℕ) : Type 0 where
+  pub ends : Ends s e
+  pub within : e ≤ length s
+
 pub record Marks (s m : List ℕ) : Type 0 where
   pub plain : Plain s (getD m 0 0)
   pub entry : (i : ℕ) → Stretch s (256 * i + getD m (2 * i + 1) 0 % 256) (getD m (2 * i + 1) 0 / 256)
-  pub ends : (i : ℕ) → Ends s (getD m (2 * i + 1) 0 / 256)
+  pub border : (i : ℕ) → Border s (getD m (2 * i + 1) 0 / 256)
   pub cells : (i j : ℕ) → bit (getD m (2 * i + 2) 0) j ≡ 1 → Stretch s (256 * i + 8 * j) (256 * i + 8 * j + 8)
 
 -- ---- words as the code changes them
@@ -101,7 +104,7 @@ module _ (s : List ℕ) where
   marks-none n = record {
     plain = subst (λ (w : ℕ). Plain s w) (sym (nought 0)) (plain-start s);
     entry = λ i. record { each = λ q l h. absurd (omega (arith, h, nought (2 * i + 1))) };
-    ends = λ i. record { before = λ q h. absurd (omega (arith, h, nought (2 * i + 1))) };
+    border = λ i. record { ends = record { before = λ q h. absurd (omega (arith, h, nought (2 * i + 1))) }; within = omega (arith, nought (2 * i + 1)) };
     cells = λ i j e. absurd (omega (arith, e, ap (λ (w : ℕ). bit w j) (nought (2 * i + 2)), zero-div (2 ^ j)));
   }
     where
@@ -118,7 +121,7 @@ module _ (s : List ℕ) where
     | yes l ↦ record {
       plain = subst (λ (w : ℕ). Plain s w) (sym (getD-set-same m 0 n 0 l)) p;
       entry = λ i. subst (λ (w : ℕ). Stretch s (256 * i + w % 256) (w / 256)) (sym (other (2 * i + 1) (omega arith))) (h .entry i);
-      ends = λ i. subst (λ (w : ℕ). Ends s (w / 256)) (sym (other (2 * i + 1) (omega arith))) (h .ends i);
+      border = λ i. subst (λ (w : ℕ). Border s (w / 256)) (sym (other (2 * i + 1) (omega arith))) (h .border i);
       cells = λ i j e. h .cells i j (subst (λ (w : ℕ). bit w j ≡ 1) (other (2 * i + 2) (omega arith)) e);
     }
     | no l ↦ subst (λ (w : List ℕ). Marks s w) (sym (set-out m 0 n (omega (arith, lt-of-not-le l)))) h
@@ -135,7 +138,7 @@ module _ (s : List ℕ) where
     kept k n d = getD-set-other m k n v 0 d
 
     -- a stretch is kept
-    pub marks-pick : Ends s z → Picked from z i (getD m (2 * i + 1) 0) v → Marks s (set m (2 * i + 1) v)
+    pub marks-pick : Border s z → Picked from z i (getD m (2 * i + 1) 0) v → Marks s (set m (2 * i + 1) v)
     marks-pick b p = elim (decLe (suc (2 * i + 1)) (length m)) [
       | yes l ↦ record {
         plain = subst (λ (n : ℕ). Plain s n) (sym (kept (2 * i + 1) 0 (λ q. omega arith))) (h .plain);
@@ -144,9 +147,9 @@ module _ (s : List ℕ) where
               (subst (λ (n : ℕ). Stretch s (256 * i + n % 256) (n / 256)) (sym (at (2 * i + 1) l)) (here (p .picked)))
           | no e ↦ subst (λ (n : ℕ). Stretch s (256 * k + n % 256) (n / 256)) (sym (kept (2 * i + 1) (2 * k + 1) (λ q. e (omega arith)))) (h .entry k)
         ];
-        ends = λ k. elim (ℕ-discrete k i) [
-          | yes e ↦ subst (λ (n : ℕ). Ends s (getD (set m (2 * i + 1) v) (2 * n + 1) 0 / 256)) (sym e) (subst (λ (n : ℕ). Ends s (n / 256)) (sym (at (2 * i + 1) l)) (end (p .picked)))
-          | no e ↦ subst (λ (n : ℕ). Ends s (n / 256)) (sym (kept (2 * i + 1) (2 * k + 1) (λ q. e (omega arith)))) (h .ends k)
+        border = λ k. elim (ℕ-discrete k i) [
+          | yes e ↦ subst (λ (n : ℕ). Border s (getD (set m (2 * i + 1) v) (2 * n + 1) 0 / 256)) (sym e) (subst (λ (n : ℕ). Border s (n / 256)) (sym (at (2 * i + 1) l)) (end (p .picked)))
+          | no e ↦ subst (λ (n : ℕ). Border s (n / 256)) (sym (kept (2 * i + 1) (2 * k + 1) (λ q. e (omega arith)))) (h .border k)
         ];
         cells = λ k j e. h .cells k j (subst (λ (n : ℕ). bit n j ≡ 1) (kept (2 * i + 1) (2 * k + 2) (λ q. omega arith)) e);
       }
@@ -157,9 +160,9 @@ module _ (s : List ℕ) where
         here (inl e) = subst (λ (n : ℕ). Stretch s (256 * i + n % 256) (n / 256)) (sym e) (h .entry i)
         here (inr w) = record { each = λ q a b. t .each q (omega (arith, w .0, a)) (omega (arith, w .1, b)) }
 
-        end : (v ≡ getD m (2 * i + 1) 0) ⊎ ((from ≤ 256 * i + v % 256) × (v / 256 ≡ z)) → Ends s (v / 256)
-        end (inl e) = subst (λ (n : ℕ). Ends s (n / 256)) (sym e) (h .ends i)
-        end (inr w) = subst (λ (n : ℕ). Ends s n) (sym (w .1)) b
+        end : (v ≡ getD m (2 * i + 1) 0) ⊎ ((from ≤ 256 * i + v % 256) × (v / 256 ≡ z)) → Border s (v / 256)
+        end (inl e) = subst (λ (n : ℕ). Border s (n / 256)) (sym e) (h .border i)
+        end (inr w) = subst (λ (n : ℕ). Border s n) (sym (w .1)) b
 
     -- and its cells
     pub marks-fill : Filled from z i (getD m (2 * i + 2) 0) v → Marks s (set m (2 * i + 2) v)
@@ -167,7 +170,7 @@ module _ (s : List ℕ) where
       | yes l ↦ record {
         plain = subst (λ (n : ℕ). Plain s n) (sym (kept (2 * i + 2) 0 (λ q. omega arith))) (h .plain);
         entry = λ k. subst (λ (n : ℕ). Stretch s (256 * k + n % 256) (n / 256)) (sym (kept (2 * i + 2) (2 * k + 1) (λ q. omega arith))) (h .entry k);
-        ends = λ k. subst (λ (n : ℕ). Ends s (n / 256)) (sym (kept (2 * i + 2) (2 * k + 1) (λ q. omega arith))) (h .ends k);
+        border = λ k. subst (λ (n : ℕ). Border s (n / 256)) (sym (kept (2 * i + 2) (2 * k + 1) (λ q. omega arith))) (h .border k);
         cells = λ k j e. elim (ℕ-discrete k i) [
           | yes d ↦ subst (λ (n : ℕ). Stretch s (256 * n + 8 * j) (256 * n + 8 * j + 8)) (sym d)
               (here j (f .filled j (subst (λ (n : ℕ). bit n j ≡ 1) (ap (λ (n : ℕ). getD (set m (2 * i + 2) v) (2 * n + 2) 0) d ∙ at (2 * i + 2) l) e)))
@@ -182,17 +185,39 @@ module _ (s : List ℕ) where
         here j (inr w) = record { each = λ q a b. t .each q (omega (arith, w .0, a)) (omega (arith, w .1, b)) }
 
   -- ---- what they show
-  pub marks-ascii : (m : List ℕ) (start len : ℕ) → Marks s m → leb (start + len) (getD m 0 0) ≡ true → wellFormed (part s start len) ≡ true
-  marks-ascii m start len h e = plain-part s (getD m 0 0) start len (h .plain) (leb-true (start + len) (getD m 0 0) e)
+  -- of a text at once: it is no NULL, lies in the octets and is well-formed
+  pub record Clear (start len : ℕ) : Type 0 where
+    pub present : start < 4294967295
+    pub within : start + len ≤ length s
+    pub well : wellFormed (part s start len) ≡ true
 
-  -- a text that lies in its block's stretch, starts at no continuation octet, and ends at none or with the stretch, is well-formed
-  pub marks-known : (m : List ℕ) (i v start len : ℕ) → Marks s m → v ≡ getD m (2 * i + 1) 0 → 256 * i + v % 256 ≤ start → start + len ≤ v / 256 → start + len ≤ length s
-      → continuation (getD s start 0) ≡ false → Ends s (start + len) → wellFormed (part s start len) ≡ true
-  marks-known m i v start len h e p q l a b =
-      stretch-part s (256 * i + v % 256) (v / 256) start len (subst (λ (v : ℕ). Stretch s (256 * i + v % 256) (v / 256)) (sym e) (h .entry i)) p q l a b
+  pub clear-ascii : (m : List ℕ) (start len : ℕ) → Marks s m → start + len ≤ getD m 0 0 → Clear start len
+  clear-ascii m start len h l = record {
+    present = omega (arith, h .plain .small);
+    within = omega (arith, h .plain .within);
+    well = plain-part s (getD m 0 0) start len (h .plain) l;
+  }
 
-  pub marks-ends : (m : List ℕ) (i v e : ℕ) → Marks s m → v ≡ getD m (2 * i + 1) 0 → v / 256 ≡ e → Ends s e
-  marks-ends m i v e h q d = subst (λ (n : ℕ). Ends s n) d (subst (λ (v : ℕ). Ends s (v / 256)) (sym q) (h .ends i))
+  -- a text that lies in a block's stretch, starts at no continuation octet, and ends at none or with the stretch
+  module _ (m : List ℕ) (i v start len : ℕ) (h : Marks s m) (e : v ≡ getD m (2 * i + 1) 0) (p : 256 * i + v % 256 ≤ start) (q : start + len ≤ v / 256) (w : v < 2 ^ 32) where
+    clear-by : continuation (getD s start 0) ≡ false → Ends s (start + len) → Clear start len
+    clear-by a b = record {
+      present = omega (arith, q, w);
+      within = inside;
+      well = stretch-part s (256 * i + v % 256) (v / 256) start len (subst (λ (v : ℕ). Stretch s (256 * i + v % 256) (v / 256)) (sym e) (h .entry i)) p q inside a b;
+    }
+      where
+        inside : start + len ≤ length s
+        inside = omega (arith, q, e, h .border i .within)
+
+    pub clear-inside : (x y : Bool) → x ≡ continuation (getD s start 0) → x ≡ false → y ≡ continuation (getD s (start + len) 0) → y ≡ false → Clear start len
+    clear-inside x y a b c d = clear-by (sym a ∙ b) (ends-lead s (start + len) (sym c ∙ d))
+
+    pub clear-whole : (x : Bool) → x ≡ continuation (getD s start 0) → x ≡ false → v / 256 ≡ start + len → Clear start len
+    clear-whole x a b d = clear-by (sym a ∙ b) (subst (λ (n : ℕ). Ends s n) d (subst (λ (v : ℕ). Ends s (v / 256)) (sym e) (h .border i .ends)))
+
+  pub clear-none : Clear 0 0
+  clear-none = record { present = omega arith; within = omega arith; well = plain-part s 0 0 0 (plain-start s) (omega arith) }
 
   pub marks-cell : (m : List ℕ) (c i : ℕ) → Marks s m → i ≡ c / 32 → bit (getD m (2 * i + 2) 0) (c % 32) ≡ 1 → Stretch s (8 * c) (8 * c + 8)
   marks-cell m c i h e b = let d : 256 * i + 8 * (c % 32) ≡ 8 * c = omega arith in subst (λ (n : ℕ). Stretch s n (n + 8)) d (h .cells i (c % 32) b)

@@ -1,5 +1,5 @@
 -- One step of the code through a text: a character, or some ASCII octets at once.
-use Prim.Native.Nat.{ℕ, zero, suc, _+_, _/_, _<_, _≤_, zero-le}
+use Prim.Native.Nat.{ℕ, zero, suc, _+_, _*_, _/_, _%_, _^_, _<_, _≤_, zero-le}
 use mathlib.Core.Path.{_≡_, refl, sym, ap, _∙_, subst}
 use mathlib.Core.List.{List, _∷_}
 use mathlib.Core.Bool.{Bool, true, false, cond, _&&_}
@@ -11,6 +11,10 @@ use borrow.Author.Tests.{eqb-true, eqb-false, eq-eqb, ne-eqb, ltb-true, ltb-fals
 use lib.Dec.{eqb, ltb}
 use lib.ListN.{length, drop, getD}
 use lib.Seq.{drop-cons}
+use mir.Syntax.{w8}
+use mir.Val.{Fits}
+use Rattle.octets.specs.Octets.{le64}
+use Rattle.octets.specs.OctetLaws.{le64-low}
 use Rattle.utf8.specs.Utf8.{inRange, size, wellFormed}
 use Rattle.utf8.specs.CharacterLaws.{one, three-e0, three-e1, three-ed, three-ee, four-f0, four-f1, four-f4}
 use Rattle.utf8.specs.WellFormedLaws.{well-past, well-stop, well-more, size-inside}
@@ -147,18 +151,22 @@ walked-whole s p w h = elim (decLe (length s) p) [
   | no l ↦ ne-eqb p (length s) (λ e. l (omega (arith, e))) ∙ sym (w .same ∙ well-stop s p (lt-of-not-le l) (h (lt-of-not-le l)))
 ]
 
--- eight octets whose highest bits are 0
-pub ascii-eight : (s : List ℕ) (p a b c d e f g h : ℕ) → a ≡ getD s p 0 / 128 → b ≡ getD s (p + 1) 0 / 128 → c ≡ getD s (p + 2) 0 / 128 → d ≡ getD s (p + 3) 0 / 128
-    → e ≡ getD s (p + 4) 0 / 128 → f ≡ getD s (p + 5) 0 / 128 → g ≡ getD s (p + 6) 0 / 128 → h ≡ getD s (p + 7) 0 / 128 → a + b + c + d + e + f + g + h ≡ 0 → Ascii s p 8
-ascii-eight s p a b c d e f g h ea eb ec ed ee ef eg eh z = record { each = octet }
-  where
-    octet : (k : ℕ) → k < 8 → getD s (p + k) 0 < 128
-    octet zero l = omega (arith, ea, z, ap (λ (n : ℕ). getD s n 0) (add-zero p))
-    octet (suc zero) l = omega (arith, eb, z)
-    octet (suc (suc zero)) l = omega (arith, ec, z)
-    octet (suc (suc (suc zero))) l = omega (arith, ed, z)
-    octet (suc (suc (suc (suc zero)))) l = omega (arith, ee, z)
-    octet (suc (suc (suc (suc (suc zero))))) l = omega (arith, ef, z)
-    octet (suc (suc (suc (suc (suc (suc zero)))))) l = omega (arith, eg, z)
-    octet (suc (suc (suc (suc (suc (suc (suc zero))))))) l = omega (arith, eh, z)
-    octet (suc (suc (suc (suc (suc (suc (suc (suc k)))))))) l = absurd (omega (arith, l))
+-- eight octets whose highest bits are 0, by the number that they make
+module _ (s : List ℕ) (p w : ℕ) (fit : (k : ℕ) → Fits w8 (getD s k 0)) (l : p + 8 ≤ length s) (e : w ≡ le64 s p) where
+  low : (k : ℕ) → k < 8 → w / (256 ^ k * 128) % 2 ≡ 0 → getD s (p + k) 0 < 128
+  low k m b = le64-low s p (λ j. fit j .fits) l k m (ap (λ (n : ℕ). n / (256 ^ k * 128) % 2) (sym e) ∙ b)
+
+  pub ascii-eight : w / 0x80 % 2 ≡ 0 → w / 0x8000 % 2 ≡ 0 → w / 0x800000 % 2 ≡ 0 → w / 0x80000000 % 2 ≡ 0 → w / 0x8000000000 % 2 ≡ 0 → w / 0x800000000000 % 2 ≡ 0
+      → w / 0x80000000000000 % 2 ≡ 0 → w / 0x8000000000000000 % 2 ≡ 0 → Ascii s p 8
+  ascii-eight b0 b1 b2 b3 b4 b5 b6 b7 = record { each = octet }
+    where
+      octet : (k : ℕ) → k < 8 → getD s (p + k) 0 < 128
+      octet zero m = low 0 m b0
+      octet (suc zero) m = low 1 m b1
+      octet (suc (suc zero)) m = low 2 m b2
+      octet (suc (suc (suc zero))) m = low 3 m b3
+      octet (suc (suc (suc (suc zero)))) m = low 4 m b4
+      octet (suc (suc (suc (suc (suc zero))))) m = low 5 m b5
+      octet (suc (suc (suc (suc (suc (suc zero)))))) m = low 6 m b6
+      octet (suc (suc (suc (suc (suc (suc (suc zero))))))) m = low 7 m b7
+      octet (suc (suc (suc (suc (suc (suc (suc (suc k)))))))) m = absurd (omega (arith, m))

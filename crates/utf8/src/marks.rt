@@ -1,7 +1,7 @@
 // Marks of the stretches of some octets in which every place lies in a character, made once for all texts.
 ghost use Prim.Native.Nat.{_+_, _<_, _≤_};
-ghost use Rattle.utf8.specs.CoverLaws.{Stretch, Ends};
-ghost use Rattle.utf8.specs.MarkLaws.{Marks, Picked, Added, Filled};
+ghost use Rattle.utf8.specs.CoverLaws.{Stretch};
+ghost use Rattle.utf8.specs.MarkLaws.{Border, Marks, Picked, Added, Filled};
 use crate::steps::plain_end;
 use crate::steps::walk;
 
@@ -90,11 +90,14 @@ fn blocks(z: usize) -> usize
     (z + 255) / 256
 }
 
-// Keeps a stretch.
+// Keeps a stretch that has room for a cell: a text in a shorter one is soon read.
 fn keep(s: &[u8], marks: &mut [u32; 8193], from: usize, z: usize)
-    requires { ⌜ Marks (now s) (now marks) × Stretch (now s) from z × Ends (now s) z ⌝ }
+    requires { ⌜ Marks (now s) (now marks) × Stretch (now s) from z × Border (now s) z ⌝ }
     ensures { λ _. ⌜ Marks (now (s .entry)) (now (marks .exit)) ⌝ }
 {
+    if past(from, z) < 8 {
+        return;
+    }
     let last = blocks(z);
     let mut i = from / 256;
     while i < last {
@@ -104,7 +107,7 @@ fn keep(s: &[u8], marks: &mut [u32; 8193], from: usize, z: usize)
     }
 }
 
-// Keeps every stretch of some octets.
+// Keeps the stretches of some octets.
 fn keep_all(s: &[u8], marks: &mut [u32; 8193])
     requires { ⌜ Marks (now s) (now marks) ⌝ }
     ensures { λ _. ⌜ Marks (now (s .entry)) (now (marks .exit)) ⌝ }

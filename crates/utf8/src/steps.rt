@@ -8,29 +8,37 @@ ghost use Rattle.utf8.specs.StepLaws.{Step, Ascii, Walking};
 ghost use Rattle.utf8.specs.PlainLaws.{Plain};
 use crate::characters::size_at;
 
-fn top(x: u8) -> u32
-    ensures { λ r. ⌜ (r ≡ x / 128) × (r < 2) ⌝ }
-{
-    (x / 128) as u32
-}
-
-// Whether eight octets are ASCII.
+// Whether eight octets are ASCII: the highest bit of each is 0. Read as one number, they are one load and one test.
 fn is_ascii(s: &[u8], p: usize) -> bool
     requires { ⌜ p + 8 ≤ length (now s) ⌝ }
     ensures { λ r. ⌜ (r ≡ true → Ascii (now (s .entry)) p 8) ⌝ }
 {
-    let high = top(s[p])
-        + top(s[p + 1])
-        + top(s[p + 2])
-        + top(s[p + 3])
-        + top(s[p + 4])
-        + top(s[p + 5])
-        + top(s[p + 6])
-        + top(s[p + 7]);
-    if high == 0 {
-        return true;
+    let w = octets::long(s, p);
+    if w / 0x80 % 2 != 0 {
+        return false;
     }
-    false
+    if w / 0x8000 % 2 != 0 {
+        return false;
+    }
+    if w / 0x800000 % 2 != 0 {
+        return false;
+    }
+    if w / 0x80000000 % 2 != 0 {
+        return false;
+    }
+    if w / 0x8000000000 % 2 != 0 {
+        return false;
+    }
+    if w / 0x800000000000 % 2 != 0 {
+        return false;
+    }
+    if w / 0x80000000000000 % 2 != 0 {
+        return false;
+    }
+    if w / 0x8000000000000000 % 2 != 0 {
+        return false;
+    }
+    true
 }
 
 // Eight ASCII octets at a place, or one, or none.

@@ -1,14 +1,14 @@
 // Texts in octets that have been marked: what the marks show needs no look at every octet.
 ghost use mathlib.Core.Path.{_≡_};
 ghost use mathlib.Core.Bool.{true, not};
-ghost use Prim.Native.Nat.{_+_, _*_, _<_, _≤_};
+ghost use Prim.Native.Nat.{_+_, _*_, _^_, _<_, _≤_};
 ghost use lib.Dec.{leb};
 ghost use lib.ListN.{length, getD};
 ghost use Rattle.octets.specs.Octets.{part};
 ghost use Rattle.utf8.specs.Utf8.{wellFormed};
 ghost use Rattle.utf8.specs.CharacterLaws.{continuation};
 ghost use Rattle.utf8.specs.CoverLaws.{Stretch};
-ghost use Rattle.utf8.specs.MarkLaws.{Marks, bit, Front, Back};
+ghost use Rattle.utf8.specs.MarkLaws.{Marks, Clear, bit, Front, Back};
 use crate::characters::within;
 use crate::steps::is_well_formed;
 use crate::steps::walk;
@@ -24,32 +24,26 @@ fn is_inner(s: &[u8], p: usize) -> bool
 }
 
 fn wide(x: u32) -> usize
-    ensures { λ r. ⌜ r ≡ x ⌝ }
+    ensures { λ r. ⌜ (r ≡ x) × (r < 2 ^ 32) ⌝ }
 {
     x as usize
 }
 
 // Whether a text is ASCII by its place.
-pub fn is_plain(marks: &[u32; 8193], start: u32, len: u32) -> bool
+fn is_plain(marks: &[u32; 8193], start: u32, len: u32) -> bool
     ensures { λ r. ⌜ r ≡ leb (start + len) (getD (now (marks .entry)) 0 0) ⌝ }
 {
     (start as usize) + (len as usize) <= wide(marks[0])
 }
 
-// Whether the stretch of its block shows that a text is well-formed.
+// Whether the stretch of its block shows a text to be clear. A place past the last block asks another one: what that shows is true as well.
 fn is_known(s: &[u8], marks: &[u32; 8193], start: u32, len: u32) -> bool
     requires { ⌜ Marks (now s) (now marks) ⌝ }
-    ensures { λ r. ⌜ (r ≡ true → wellFormed (part (now (s .entry)) start len) ≡ true) ⌝ }
+    ensures { λ r. ⌜ (r ≡ true → Clear (now (s .entry)) start len) ⌝ }
 {
     let from = start as usize;
     let end = from + (len as usize);
-    if s.len() < end {
-        return false;
-    }
-    let i = from / 256;
-    if 4095 < i {
-        return false;
-    }
+    let i = from / 256 % 4096;
     let v = wide(marks[2 * i + 1]);
     if from < 256 * i + v % 256 {
         return false;
@@ -67,6 +61,17 @@ fn is_known(s: &[u8], marks: &[u32; 8193], start: u32, len: u32) -> bool
         return false;
     }
     true
+}
+
+// Whether the marks show at once that a text lies in the octets and is well-formed.
+pub fn is_clear(s: &[u8], marks: &[u32; 8193], start: u32, len: u32) -> bool
+    requires { ⌜ Marks (now s) (now marks) ⌝ }
+    ensures { λ r. ⌜ (r ≡ true → Clear (now (s .entry)) start len) ⌝ }
+{
+    if is_plain(marks, start, len) {
+        return true;
+    }
+    is_known(s, marks, start, len)
 }
 
 fn has_cell(w: u32, j: u32) -> bool
@@ -181,10 +186,7 @@ pub fn is_ill(s: &[u8], marks: &[u32; 8193], start: u32, len: u32) -> bool
     requires { ⌜ Marks (now s) (now marks) ⌝ }
     ensures { λ r. ⌜ r ≡ not (wellFormed (part (now (s .entry)) start len)) ⌝ }
 {
-    if is_plain(marks, start, len) {
-        return false;
-    }
-    if is_known(s, marks, start, len) {
+    if is_clear(s, marks, start, len) {
         return false;
     }
     if is_filled(s, marks, start, len) {

@@ -3,7 +3,7 @@ use Prim.Native.Nat.{_-_}
 use lib.ListN.{length}
 use Rattle.utf8.specs.CoverLaws.{Ends, ends-start}
 use Rattle.utf8.specs.MarkLaws.{Marks}
-use Rattle.utf8.proofs.Laws.{walk-ends, ends-next}
+use Rattle.utf8.proofs.Laws.{walk-border, ends-next}
 use borrow.Author.Needs.{needs}
 use Rattle.utf8.proofs.marks.keep_all.Statement.{statement}
 use Rattle.utf8.proofs.marks.keep_all.Tie as tie
@@ -18,5 +18,5 @@ pub keep-all-spec : {M : Type 1} → statement M
 keep-all-spec =
     tie.close
     (tie.spec
-    Inv-loop μ-loop (λ c. search (ends-start, needs)) (λ c κs. search needs) (λ c κs. search (walk-ends, needs)) (λ c. search needs)
-    (λ c. search needs) (λ c. search needs) (λ c. search (walk-ends, ends-next, needs)) (λ c. search needs))
+    Inv-loop μ-loop (λ c. search (ends-start, needs)) (λ c κs. search needs) (λ c κs. search (walk-border, needs)) (λ c. search needs)
+    (λ c. search needs) (λ c. search needs) (λ c. search (walk-border, ends-next, needs)) (λ c. search needs))

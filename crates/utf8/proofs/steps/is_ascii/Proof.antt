@@ -9,8 +9,6 @@ pub is-ascii-spec : {M : Type 1} → statement M
 is-ascii-spec =
     tie.close
     (tie.spec
-    (λ c. search needs) (λ c κs. search needs) (λ c. search needs) (λ c. search needs) (λ c κs. search needs) (λ c. search needs) (λ c. search needs)
-    (λ c. search needs) (λ c κs. search needs) (λ c. search needs) (λ c. search needs) (λ c. search needs) (λ c κs. search needs) (λ c. search needs)
-    (λ c. search needs) (λ c. search needs) (λ c κs. search needs) (λ c. search needs) (λ c. search needs) (λ c. search needs) (λ c κs. search needs)
-    (λ c. search needs) (λ c. search needs) (λ c. search needs) (λ c κs. search needs) (λ c. search needs) (λ c. search needs) (λ c. search needs)
-    (λ c κs. search needs) (λ c. search needs) (λ c. λ e. search (ascii-eight, needs)) (λ c. λ e. absurd (false≢true e)))
+    (λ c κs. search needs) (λ c. λ e. absurd (false≢true e)) (λ c. λ e. absurd (false≢true e)) (λ c. λ e. absurd (false≢true e))
+    (λ c. λ e. absurd (false≢true e)) (λ c. λ e. absurd (false≢true e)) (λ c. λ e. absurd (false≢true e)) (λ c. λ e. absurd (false≢true e))
+    (λ c. λ e. absurd (false≢true e)) (λ c. λ e. search (ascii-eight, needs)))

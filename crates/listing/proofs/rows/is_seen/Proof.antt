@@ -1,0 +1,11 @@
+-- `listing::rows::is_seen` meets its contract.
+use Rattle.listing.proofs.Laws.{clear-again}
+use borrow.Author.Needs.{needs}
+use Rattle.listing.proofs.rows.is_seen.Statement.{statement}
+use Rattle.listing.proofs.rows.is_seen.Tie as tie
+
+pub is-seen-spec : {M : Type 1} → statement M
+is-seen-spec =
+    tie.close
+    (tie.spec
+    (λ c. λ e. search (clear-again, needs)) (λ c κs. search needs) (λ c. search needs))

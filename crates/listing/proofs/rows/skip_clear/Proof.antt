@@ -1,0 +1,22 @@
+-- `listing::rows::skip_clear` meets its contract.
+use Prim.Native.Nat.{_-_}
+use Rattle.utf8.specs.MarkLaws.{Clear, clear-none}
+use Rattle.listing.specs.FaultLaws.{Passed, passed-none, passed-more}
+use Rattle.listing.proofs.Laws.{room-step, room-place, room-name, clear-then}
+use borrow.Author.Needs.{needs}
+use Rattle.listing.proofs.rows.skip_clear.Statement.{statement}
+use Rattle.listing.proofs.rows.skip_clear.Tie as tie
+
+abbrev Inv-loop : tie.InvT-loop
+Inv-loop size base texts table names marks last₀ c₀ last c = Passed names table size base texts c₀ c × Clear names (last .start) (last .len)
+
+abbrev μ-loop : tie.MeasureT-loop
+μ-loop size base texts table names marks last₀ c₀ last c = c .end - c .row
+
+pub skip-clear-spec : {M : Type 1} → statement M
+skip-clear-spec =
+    tie.close
+    (tie.spec
+    Inv-loop μ-loop (λ c. search (passed-none, needs)) (λ c. search (passed-none, clear-none, needs)) (λ c. search (room-step, needs))
+    (λ c. search (room-place, needs)) (λ c κs. search (room-name, needs)) (λ c κs. search needs) (λ c. search needs) (λ c κs. search needs)
+    (λ c. search needs) (λ c. search (c .before .before .is-seen .ensures, passed-more, clear-then, needs)) (λ c. search needs))
