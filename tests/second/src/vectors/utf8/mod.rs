@@ -18,6 +18,7 @@ pub fn check(tally: &mut Tally) {
     parts::check(tally);
     check_every_field(tally);
     check_places(tally);
+    check_neighbours(tally);
     check_order(tally);
     check_verdicts_and_lookups(tally);
     check_calls(tally);
@@ -123,6 +124,52 @@ fn check_places(tally: &mut Tally) {
         d.matrices[2].table_name = bad;
         d.tiles.iter_mut().for_each(|tile| tile.table_name = bad);
     });
+}
+
+/// Readings 3.2 and 3.6: rows of one text, much like that of the row before. "é" is
+/// the names 96 and 97; a stray octet follows, and there are 99.
+fn check_neighbours(tally: &mut Tally) {
+    let e = (96, 2);
+    for (texts, want) in [
+        ([e, e, e], None),
+        ([e, (96, 0), e], None),
+        ([(0, 96), (0, 98), e], None),
+        ([(97, 0), (98, 0), (99, 0)], None),
+        ([e, (96, 1), e], Some((13, 1))),
+        ([e, e, (96, 3)], Some((13, 2))),
+        ([e, (96, 4), e], Some((7, 1))),
+        ([e, (97, 1), (96, 1)], Some((13, 1))),
+        ([e, (95, 2), e], Some((13, 1))),
+        ([e, (97, 2), e], Some((13, 1))),
+        ([e, e, (98, 2)], Some((7, 2))),
+        ([(0, 96), (0, 97), (0, 96)], Some((13, 1))),
+        ([(0, 98), (0, 98), (0, 99)], Some((13, 2))),
+        ([(98, 0), (98, 1), (98, 1)], Some((13, 1))),
+        ([(98, 1), e, (98, 1)], Some((13, 0))),
+        ([(96, 1), e, (100, 0)], Some((7, 2))),
+    ] {
+        check_rows(tally, texts, want);
+    }
+}
+
+/// These texts in the rows of tables 4 and 5, and the reason and row to refuse for.
+fn check_rows(tally: &mut Tally, texts: [(usize, usize); 3], want: Option<(u32, usize)>) {
+    let mut draft = valley();
+    draft.text_apart(b"\xc3\xa9\xff");
+    let mut drafts = [draft.clone(), draft];
+    for (row, (start, length)) in texts.into_iter().enumerate() {
+        drafts[0].matrices[row].table_name = span(start, length);
+        drafts[1].tiles[row].table_name = span(start, length);
+    }
+    for (table, draft) in (4..).zip(drafts) {
+        let shows = format!("3.6: rows of table {table} with {texts:?}");
+        let Some((number, row)) = want else {
+            tally.same(&shows, is_good(&draft), true);
+            continue;
+        };
+        let refused = format!("refused {number} {table} {row}");
+        tally.judged(&shows, &draft.listing(), &refused);
+    }
 }
 
 /// The octets of the valley with a bad text in table 1, changed. Its offsets are
