@@ -198,23 +198,34 @@ module _ (s : List ℕ) where
     well = plain-part s (getD m 0 0) start len (h .plain) l;
   }
 
-  -- a text that lies in a block's stretch, starts at no continuation octet, and ends at none or with the stretch
-  module _ (m : List ℕ) (i v start len : ℕ) (h : Marks s m) (e : v ≡ getD m (2 * i + 1) 0) (p : 256 * i + v % 256 ≤ start) (q : start + len ≤ v / 256) (w : v < 2 ^ 32) where
-    clear-by : continuation (getD s start 0) ≡ false → Ends s (start + len) → Clear start len
-    clear-by a b = record {
-      present = omega (arith, q, w);
-      within = inside;
-      well = stretch-part s (256 * i + v % 256) (v / 256) start len (subst (λ (v : ℕ). Stretch s (256 * i + v % 256) (v / 256)) (sym e) (h .entry i)) p q inside a b;
-    }
-      where
-        inside : start + len ≤ length s
-        inside = omega (arith, q, e, h .border i .within)
+  -- a part that begins and ends between characters
+  pub record Between (a e : ℕ) : Type 0 where
+    pub lead : continuation (getD s a 0) ≡ false
+    pub ends : Ends s e
 
-    pub clear-inside : (x y : Bool) → x ≡ continuation (getD s start 0) → x ≡ false → y ≡ continuation (getD s (start + len) 0) → y ≡ false → Clear start len
-    clear-inside x y a b c d = clear-by (sym a ∙ b) (ends-lead s (start + len) (sym c ∙ d))
+  -- it begins at no continuation octet, and ends at none or with its stretch
+  module _ (a e : ℕ) (x : Bool) (f : x ≡ continuation (getD s a 0)) (g : x ≡ false) where
+    pub between-whole : (z : ℕ) → Border s z → e ≡ z → Between a e
+    between-whole z b d = record { lead = sym f ∙ g; ends = subst (λ (n : ℕ). Ends s n) (sym d) (b .ends) }
 
-    pub clear-whole : (x : Bool) → x ≡ continuation (getD s start 0) → x ≡ false → v / 256 ≡ start + len → Clear start len
-    clear-whole x a b d = clear-by (sym a ∙ b) (subst (λ (n : ℕ). Ends s n) d (subst (λ (v : ℕ). Ends s (v / 256)) (sym e) (h .border i .ends)))
+    pub between-inside : (y : Bool) → y ≡ continuation (getD s e 0) → y ≡ false → Between a e
+    between-inside y h k = record { lead = sym f ∙ g; ends = ends-lead s e (sym h ∙ k) }
+
+  -- a block's stretch
+  pub known-border : (m : List ℕ) (i v : ℕ) → Marks s m → v ≡ getD m (2 * i + 1) 0 → Border s (v / 256)
+  known-border m i v h e = subst (λ (v : ℕ). Border s (v / 256)) (sym e) (h .border i)
+
+  -- a text that lies in it
+  pub clear-known : (m : List ℕ) (i v start len : ℕ) (b : Bool) → Marks s m → v ≡ getD m (2 * i + 1) 0 → v < 2 ^ 32 → 256 * i + v % 256 ≤ start → start + len ≤ v / 256
+      → (b ≡ true → Between start (start + len)) → b ≡ true → Clear start len
+  clear-known m i v start len b h e w p q c t = record {
+    present = omega (arith, q, w);
+    within = inside;
+    well = stretch-part s (256 * i + v % 256) (v / 256) start len (subst (λ (v : ℕ). Stretch s (256 * i + v % 256) (v / 256)) (sym e) (h .entry i)) p q inside (c t .lead) (c t .ends);
+  }
+    where
+      inside : start + len ≤ length s
+      inside = omega (arith, q, e, h .border i .within)
 
   pub clear-none : Clear 0 0
   clear-none = record { present = omega arith; within = omega arith; well = plain-part s 0 0 0 (plain-start s) (omega arith) }

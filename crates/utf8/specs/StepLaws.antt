@@ -151,22 +151,26 @@ walked-whole s p w h = elim (decLe (length s) p) [
   | no l ↦ ne-eqb p (length s) (λ e. l (omega (arith, e))) ∙ sym (w .same ∙ well-stop s p (lt-of-not-le l) (h (lt-of-not-le l)))
 ]
 
--- eight octets whose highest bits are 0, by the number that they make
-module _ (s : List ℕ) (p w : ℕ) (fit : (k : ℕ) → Fits w8 (getD s k 0)) (l : p + 8 ≤ length s) (e : w ≡ le64 s p) where
-  low : (k : ℕ) → k < 8 → w / (256 ^ k * 128) % 2 ≡ 0 → getD s (p + k) 0 < 128
-  low k m b = le64-low s p (λ j. fit j .fits) l k m (ap (λ (n : ℕ). n / (256 ^ k * 128) % 2) (sym e) ∙ b)
+-- ---- eight octets at once, by the number that they make
+-- the highest bit of each is 0
+pub record Low (w : ℕ) : Type 0 where
+  pub each : (k : ℕ) → k < 8 → w / (256 ^ k * 128) % 2 ≡ 0
 
-  pub ascii-eight : w / 0x80 % 2 ≡ 0 → w / 0x8000 % 2 ≡ 0 → w / 0x800000 % 2 ≡ 0 → w / 0x80000000 % 2 ≡ 0 → w / 0x8000000000 % 2 ≡ 0 → w / 0x800000000000 % 2 ≡ 0
-      → w / 0x80000000000000 % 2 ≡ 0 → w / 0x8000000000000000 % 2 ≡ 0 → Ascii s p 8
-  ascii-eight b0 b1 b2 b3 b4 b5 b6 b7 = record { each = octet }
-    where
-      octet : (k : ℕ) → k < 8 → getD s (p + k) 0 < 128
-      octet zero m = low 0 m b0
-      octet (suc zero) m = low 1 m b1
-      octet (suc (suc zero)) m = low 2 m b2
-      octet (suc (suc (suc zero))) m = low 3 m b3
-      octet (suc (suc (suc (suc zero)))) m = low 4 m b4
-      octet (suc (suc (suc (suc (suc zero))))) m = low 5 m b5
-      octet (suc (suc (suc (suc (suc (suc zero)))))) m = low 6 m b6
-      octet (suc (suc (suc (suc (suc (suc (suc zero))))))) m = low 7 m b7
-      octet (suc (suc (suc (suc (suc (suc (suc (suc k)))))))) m = absurd (omega (arith, m))
+pub low-by : (w : ℕ) → w / 0x80 % 2 ≡ 0 → w / 0x8000 % 2 ≡ 0 → w / 0x800000 % 2 ≡ 0 → w / 0x80000000 % 2 ≡ 0 → w / 0x8000000000 % 2 ≡ 0 → w / 0x800000000000 % 2 ≡ 0
+    → w / 0x80000000000000 % 2 ≡ 0 → w / 0x8000000000000000 % 2 ≡ 0 → Low w
+low-by w a b c d e f g h = record { each = bit }
+  where
+    bit : (k : ℕ) → k < 8 → w / (256 ^ k * 128) % 2 ≡ 0
+    bit zero l = a
+    bit (suc zero) l = b
+    bit (suc (suc zero)) l = c
+    bit (suc (suc (suc zero))) l = d
+    bit (suc (suc (suc (suc zero)))) l = e
+    bit (suc (suc (suc (suc (suc zero))))) l = f
+    bit (suc (suc (suc (suc (suc (suc zero)))))) l = g
+    bit (suc (suc (suc (suc (suc (suc (suc zero))))))) l = h
+    bit (suc (suc (suc (suc (suc (suc (suc (suc k)))))))) l = absurd (omega (arith, l))
+
+pub ascii-eight : (s : List ℕ) (p w : ℕ) (r : Bool) → ((k : ℕ) → Fits w8 (getD s k 0)) → p + 8 ≤ length s → w ≡ le64 s p → (r ≡ true → Low w) → r ≡ true → Ascii s p 8
+ascii-eight s p w r fit l e h t =
+    record { each = λ k m. le64-low s p (λ j. fit j .fits) l k m (ap (λ (n : ℕ). n / (256 ^ k * 128) % 2) (sym e) ∙ h t .each k m) }

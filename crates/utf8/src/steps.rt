@@ -1,19 +1,17 @@
 // Steps through octets: a character, or some ASCII octets at once.
 ghost use mathlib.Core.Path.{_≡_};
 ghost use mathlib.Core.Bool.{true};
-ghost use Prim.Native.Nat.{_+_, _/_, _<_, _≤_};
+ghost use Prim.Native.Nat.{_+_, _<_, _≤_};
 ghost use lib.ListN.{length, drop};
 ghost use Rattle.utf8.specs.Utf8.{size, wellFormed};
-ghost use Rattle.utf8.specs.StepLaws.{Step, Ascii, Walking};
+ghost use Rattle.utf8.specs.StepLaws.{Step, Ascii, Low, Walking};
 ghost use Rattle.utf8.specs.PlainLaws.{Plain};
 use crate::characters::size_at;
 
-// Whether eight octets are ASCII: the highest bit of each is 0. Read as one number, they are one load and one test.
-fn is_ascii(s: &[u8], p: usize) -> bool
-    requires { ⌜ p + 8 ≤ length (now s) ⌝ }
-    ensures { λ r. ⌜ (r ≡ true → Ascii (now (s .entry)) p 8) ⌝ }
+// Whether the highest bit of each of a number's eight octets is 0: one test of the number, as it is compiled.
+fn is_low(w: u64) -> bool
+    ensures { λ r. ⌜ (r ≡ true → Low w) ⌝ }
 {
-    let w = octets::long(s, p);
     if w / 0x80 % 2 != 0 {
         return false;
     }
@@ -39,6 +37,14 @@ fn is_ascii(s: &[u8], p: usize) -> bool
         return false;
     }
     true
+}
+
+// Whether eight octets are ASCII.
+fn is_ascii(s: &[u8], p: usize) -> bool
+    requires { ⌜ p + 8 ≤ length (now s) ⌝ }
+    ensures { λ r. ⌜ (r ≡ true → Ascii (now (s .entry)) p 8) ⌝ }
+{
+    is_low(octets::long(s, p))
 }
 
 // Eight ASCII octets at a place, or one, or none.

@@ -8,7 +8,7 @@ ghost use Rattle.octets.specs.Octets.{part};
 ghost use Rattle.utf8.specs.Utf8.{wellFormed};
 ghost use Rattle.utf8.specs.CharacterLaws.{continuation};
 ghost use Rattle.utf8.specs.CoverLaws.{Stretch};
-ghost use Rattle.utf8.specs.MarkLaws.{Marks, Clear, bit, Front, Back};
+ghost use Rattle.utf8.specs.MarkLaws.{Border, Marks, Between, Clear, bit, Front, Back};
 use crate::characters::within;
 use crate::steps::is_well_formed;
 use crate::steps::walk;
@@ -36,6 +36,23 @@ fn is_plain(marks: &[u32; 8193], start: u32, len: u32) -> bool
     (start as usize) + (len as usize) <= wide(marks[0])
 }
 
+// Whether a part of a stretch begins and ends between characters.
+fn is_between(s: &[u8], stretch_end: usize, from: usize, end: usize) -> bool
+    requires { ⌜ Border (now s) «stretch_end» ⌝ }
+    ensures { λ r. ⌜ (r ≡ true → Between (now (s .entry)) from end) ⌝ }
+{
+    if is_inner(s, from) {
+        return false;
+    }
+    if end == stretch_end {
+        return true;
+    }
+    if is_inner(s, end) {
+        return false;
+    }
+    true
+}
+
 // Whether the stretch of its block shows a text to be clear. A place past the last block asks another one: what that shows is true as well.
 fn is_known(s: &[u8], marks: &[u32; 8193], start: u32, len: u32) -> bool
     requires { ⌜ Marks (now s) (now marks) ⌝ }
@@ -51,16 +68,7 @@ fn is_known(s: &[u8], marks: &[u32; 8193], start: u32, len: u32) -> bool
     if v / 256 < end {
         return false;
     }
-    if is_inner(s, from) {
-        return false;
-    }
-    if v / 256 == end {
-        return true;
-    }
-    if is_inner(s, end) {
-        return false;
-    }
-    true
+    is_between(s, v / 256, from, end)
 }
 
 // Whether the marks show at once that a text lies in the octets and is well-formed.

@@ -1,6 +1,5 @@
 -- `utf8::steps::is_ascii` meets its contract.
 use Rattle.utf8.specs.StepLaws.{ascii-eight}
-use mathlib.Core.Bool.{false≢true}
 use borrow.Author.Needs.{needs}
 use Rattle.utf8.proofs.steps.is_ascii.Statement.{statement}
 use Rattle.utf8.proofs.steps.is_ascii.Tie as tie
@@ -9,6 +8,4 @@ pub is-ascii-spec : {M : Type 1} → statement M
 is-ascii-spec =
     tie.close
     (tie.spec
-    (λ c κs. search needs) (λ c. λ e. absurd (false≢true e)) (λ c. λ e. absurd (false≢true e)) (λ c. λ e. absurd (false≢true e))
-    (λ c. λ e. absurd (false≢true e)) (λ c. λ e. absurd (false≢true e)) (λ c. λ e. absurd (false≢true e)) (λ c. λ e. absurd (false≢true e))
-    (λ c. λ e. absurd (false≢true e)) (λ c. λ e. search (ascii-eight, needs)))
+    (λ c κs. search needs) (λ c κs. search needs) (λ c. λ e. search (ascii-eight, needs)))
