@@ -4,7 +4,7 @@ use mathlib.Core.Path.{_≡_, sym, ap, _∙_, subst}
 use mathlib.Core.List.{List, [], _∷_}
 use mathlib.Core.Bool.{Bool, true, false, cond, not, _&&_}
 use native.Mathlib.Omega.{arith}
-use borrow.Author.Tests.{le-leb, leb-true, eq-eqb, ne-eqb, not-false}
+use borrow.Author.Tests.{le-leb, eq-eqb, ne-eqb, not-false}
 use lib.Dec.{leb}
 use lib.ListN.{length, drop, getD, List·getD-eq-default}
 use mir.Syntax.{w32}
@@ -15,7 +15,7 @@ use Rattle.utf8.specs.CharacterLaws.{continuation, range-below, one, two
 use Rattle.utf8.specs.CoverLaws.{Stretch, Ends, stretch-join, ends-lead, ends-past}
 use Rattle.utf8.specs.StepLaws.{second, three-law, four-law, Step, Walking}
 use Rattle.utf8.specs.PlainLaws.{Plain}
-use Rattle.utf8.specs.MarkLaws.{Border, Marks, Clear, clear-ascii}
+use Rattle.utf8.specs.MarkLaws.{Border, Marks, Clear, clear-plain}
 
 module _ (low high x : ℕ) where
   pub within-no : x < low → false ≡ inRange low high x
@@ -99,8 +99,8 @@ size-by s p r b c d l e f g h = h ∙ (cc) ∙ size-at s p l
 pub plain-fits : (s : List ℕ) (n : ℕ) → Plain s n → Fits w32 n
 plain-fits s n h = record { fits = omega (arith, h .small) }
 
-pub clear-plain : (s m : List ℕ) (start len : ℕ) (r : Bool) → Marks s m → r ≡ leb (start + len) (getD m 0 0) → r ≡ true → Clear s start len
-clear-plain s m start len r k h e = clear-ascii s m start len k (leb-true (start + len) (getD m 0 0) (sym h ∙ e))
+pub plain-not : (s m : List ℕ) (start len : ℕ) (r : Bool) → Marks s m → r ≡ leb (start + len) (getD m 0 0) → r ≡ true → false ≡ not (wellFormed (part s start len))
+plain-not s m start len r k h e = sym (ap not (clear-plain s m start len r k h e .well))
 
 pub clear-not : (s : List ℕ) (start len : ℕ) (r : Bool) → (r ≡ true → Clear s start len) → r ≡ true → false ≡ not (wellFormed (part s start len))
 clear-not s start len r h e = sym (ap not (h e .well))

@@ -7,6 +7,8 @@ use mathlib.Core.Logic.{_⊎_, inl, inr, ⊎-elim}
 use native.Mathlib.Nat.{le-refl, lt-of-not-le, lt-of-lt-of-le, mod-lt, mod-eq-of-lt, div-eq-of-lt, zero-div, add-mul, one-mul, mul-comm, pow-suc}
 use native.Mathlib.Decide.{decLe, ℕ-discrete}
 use native.Mathlib.Omega.{arith}
+use borrow.Author.Tests.{leb-true}
+use lib.Dec.{leb}
 use lib.ListN.{length, getD, set, replicate, getD-replicate, length-replicate, List·getD-eq-default}
 use lib.Pow.{pow-pos, pow-lt, pow-mono, pow-add, split, high}
 use lib.Seq.{getD-set-same, getD-set-other, set-out}
@@ -191,12 +193,16 @@ module _ (s : List ℕ) where
     pub within : start + len ≤ length s
     pub well : wellFormed (part s start len) ≡ true
 
-  pub clear-ascii : (m : List ℕ) (start len : ℕ) → Marks s m → start + len ≤ getD m 0 0 → Clear start len
-  clear-ascii m start len h l = record {
-    present = omega (arith, h .plain .small);
-    within = omega (arith, h .plain .within);
-    well = plain-part s (getD m 0 0) start len (h .plain) l;
+  -- a text that ends in the ASCII octets
+  pub clear-plain : (m : List ℕ) (start len : ℕ) (b : Bool) → Marks s m → b ≡ leb (start + len) (getD m 0 0) → b ≡ true → Clear start len
+  clear-plain m start len b h e t = record {
+    present = omega (arith, inside, h .plain .small);
+    within = omega (arith, inside, h .plain .within);
+    well = plain-part s (getD m 0 0) start len (h .plain) inside;
   }
+    where
+      inside : start + len ≤ getD m 0 0
+      inside = leb-true (start + len) (getD m 0 0) (sym e ∙ t)
 
   -- a part that begins and ends between characters
   pub record Between (a e : ℕ) : Type 0 where

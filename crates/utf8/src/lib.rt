@@ -6,5 +6,6 @@ mod texts;
 
 pub use marks::mark;
 pub use steps::is_well_formed;
-pub use texts::is_clear;
 pub use texts::is_ill;
+pub use texts::is_known;
+pub use texts::is_plain;

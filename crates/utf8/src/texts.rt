@@ -30,7 +30,7 @@ fn wide(x: u32) -> usize
 }
 
 // Whether a text is ASCII by its place.
-fn is_plain(marks: &[u32; 8193], start: u32, len: u32) -> bool
+pub fn is_plain(marks: &[u32; 8193], start: u32, len: u32) -> bool
     ensures { λ r. ⌜ r ≡ leb (start + len) (getD (now (marks .entry)) 0 0) ⌝ }
 {
     (start as usize) + (len as usize) <= wide(marks[0])
@@ -54,7 +54,7 @@ fn is_between(s: &[u8], stretch_end: usize, from: usize, end: usize) -> bool
 }
 
 // Whether the stretch of its block shows a text to be clear. A place past the last block asks another one: what that shows is true as well.
-fn is_known(s: &[u8], marks: &[u32; 8193], start: u32, len: u32) -> bool
+pub fn is_known(s: &[u8], marks: &[u32; 8193], start: u32, len: u32) -> bool
     requires { ⌜ Marks (now s) (now marks) ⌝ }
     ensures { λ r. ⌜ (r ≡ true → Clear (now (s .entry)) start len) ⌝ }
 {
@@ -69,17 +69,6 @@ fn is_known(s: &[u8], marks: &[u32; 8193], start: u32, len: u32) -> bool
         return false;
     }
     is_between(s, v / 256, from, end)
-}
-
-// Whether the marks show at once that a text lies in the octets and is well-formed.
-pub fn is_clear(s: &[u8], marks: &[u32; 8193], start: u32, len: u32) -> bool
-    requires { ⌜ Marks (now s) (now marks) ⌝ }
-    ensures { λ r. ⌜ (r ≡ true → Clear (now (s .entry)) start len) ⌝ }
-{
-    if is_plain(marks, start, len) {
-        return true;
-    }
-    is_known(s, marks, start, len)
 }
 
 fn has_cell(w: u32, j: u32) -> bool
@@ -194,7 +183,10 @@ pub fn is_ill(s: &[u8], marks: &[u32; 8193], start: u32, len: u32) -> bool
     requires { ⌜ Marks (now s) (now marks) ⌝ }
     ensures { λ r. ⌜ r ≡ not (wellFormed (part (now (s .entry)) start len)) ⌝ }
 {
-    if is_clear(s, marks, start, len) {
+    if is_plain(marks, start, len) {
+        return false;
+    }
+    if is_known(s, marks, start, len) {
         return false;
     }
     if is_filled(s, marks, start, len) {
