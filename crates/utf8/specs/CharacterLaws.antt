@@ -334,3 +334,16 @@ size-at s p l =
     let q2 : getD t 2 0 ≡ getD s (p + 3) 0 = getD-drop (suc p) s 2 0 ∙ ap (λ (n : ℕ). getD s n 0) (omega arith) in
     let w : getD s p 0 ∷ padded 3 t ≡ getD s p 0 ∷ getD s (p + 1) 0 ∷ getD s (p + 2) 0 ∷ getD s (p + 3) 0 ∷ [] = ap (λ (l : List ℕ). getD s p 0 ∷ l) (padded-four t) ∙ cc in
     ap size (sym w) ∙ size-padded (getD s p 0) t ∙ ap size (sym e)
+
+-- an octet with which no character begins
+pub record NeverFirst (a : ℕ) : Type 0 where
+  pub none : (s : List ℕ) → size (a ∷ s) ≡ 0
+
+pub never-low : (a : ℕ) → 0x80 ≤ a → a < 0xC2 → NeverFirst a
+never-low a l h = record { none = λ s. none-low a s l (omega arith) }
+
+pub never-high : (a : ℕ) → 0xF4 < a → NeverFirst a
+never-high a l = record { none = λ s. none-high a s (omega arith) }
+
+pub never-at : (s : List ℕ) (p : ℕ) (r : Bool) → p < length s → (r ≡ true → NeverFirst (getD s p 0)) → r ≡ true → 0 ≡ size (drop p s)
+never-at s p r l h e = sym (ap size (drop-cons s p 0 l) ∙ h e .none (drop (suc p) s))

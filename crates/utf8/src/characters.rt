@@ -5,6 +5,7 @@ ghost use mathlib.Core.List.{[], _∷_};
 ghost use Prim.Native.Nat.{_+_, _<_};
 ghost use lib.ListN.{length, getD, drop};
 ghost use Rattle.utf8.specs.Utf8.{inRange, size};
+ghost use Rattle.utf8.specs.CharacterLaws.{NeverFirst};
 ghost use Rattle.utf8.specs.StepLaws.{second};
 
 pub fn within(low: u8, high: u8, x: u8) -> bool
@@ -104,11 +105,27 @@ fn octet_after(s: &[u8], p: usize, k: usize) -> u8
     s[p + k]
 }
 
-// The octets of the character at a place, or 0.
+// Whether no character begins with an octet.
+fn is_never_first(a: u8) -> bool
+    ensures { λ r. ⌜ (r ≡ true → NeverFirst a) ⌝ }
+{
+    if a < 0x80 {
+        return false;
+    }
+    if a < 0xC2 {
+        return true;
+    }
+    0xF4 < a
+}
+
+// The octets of the character at a place, or 0. An octet that begins none is told before any other is read.
 pub fn size_at(s: &[u8], p: usize) -> usize
     requires { ⌜ p < length (now s) ⌝ }
     ensures { λ r. ⌜ r ≡ size (drop p (now (s .entry))) ⌝ }
 {
+    if is_never_first(s[p]) {
+        return 0;
+    }
     size_of(
         s[p],
         octet_after(s, p, 1),
