@@ -1,5 +1,5 @@
 -- The cases of the definitions, in the shape in which needs ask for them.
-use Prim.Native.Nat.{ℕ, _+_, _*_, _/_, _%_, _<_, _≤_}
+use Prim.Native.Nat.{ℕ, _+_, _*_, _<_, _≤_}
 use mathlib.Core.Path.{_≡_, sym, ap, _∙_, subst}
 use mathlib.Core.List.{List, [], _∷_}
 use mathlib.Core.Bool.{Bool, true, false, cond, not, _&&_}
@@ -12,7 +12,7 @@ use mir.Val.{Fits}
 use Rattle.octets.specs.Octets.{part}
 use Rattle.utf8.specs.Utf8.{inRange, fits, size, wellFormed}
 use Rattle.utf8.specs.CharacterLaws.{continuation, range-below, one, two, none-low, none-high, size-at}
-use Rattle.utf8.specs.CoverLaws.{Stretch, Ends, stretch-join, ends-lead, ends-past}
+use Rattle.utf8.specs.CoverLaws.{Stretch, Ends, stretch-join, ends-past}
 use Rattle.utf8.specs.StepLaws.{second, three-law, four-law, Step, Walking}
 use Rattle.utf8.specs.PlainLaws.{Plain}
 use Rattle.utf8.specs.MarkLaws.{Border, Marks, Clear, clear-plain}
