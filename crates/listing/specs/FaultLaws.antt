@@ -10,6 +10,7 @@ use lib.Dec.{ltb, eqb}
 use lib.ListN.{length}
 use Rattle.octets.specs.Search.{first, any}
 use Rattle.octets.specs.SearchLaws.{Seeking, cursor-more, first-lowest, first-agree, none-at, any-none, any-agree, any-or, finds, misses}
+use Rattle.octets.specs.Octets.{le32}
 use Rattle.octets.specs.Texts.{textOf, textAt, nameAt, outside}
 use Rattle.octets.specs.declared.Name.{Name}
 use Rattle.octets.specs.declared.Text.{Text}
@@ -19,6 +20,8 @@ use Rattle.listing.specs.Refusals.{ill, textBase, textCount, nullCount, 
 use Rattle.listing.specs.declared.Cursor.{Cursor}
 use Rattle.listing.specs.declared.TextFault.{TextFault}
 use Rattle.listing.specs.declared.TextFault.the-variants.{Outside, Either}
+use Rattle.listing.specs.declared.TextOrder.{TextOrder}
+use Rattle.listing.specs.declared.TextOrder.the-variants.{StartFirst, LengthFirst}
 
 -- one of two faults
 abbrev pub either : (Bool → Text → Bool) → (Bool → Text → Bool) → Bool → Text → Bool
@@ -114,10 +117,15 @@ clear-text fault names start len nullable h = by fault
     by Outside = simp (there, inside)
     by Either = simp (there, inside, h .well)
 
-abbrev pub ClearAt : List ℕ → List ℕ → ℕ → Type 0
-ClearAt names t at = Clear names (nameAt t at .start) (nameAt t at .len)
+-- the name at a place, its two numbers in either order
+abbrev pub nameBy : TextOrder → List ℕ → ℕ → Name
+nameBy StartFirst t at = nameAt t at
+nameBy LengthFirst t at = record { start = le32 t (at + 4); len = le32 t at }
 
-clear-row : (fault : TextFault) (names t : List ℕ) (nulls at : ℕ) → ClearAt names t at → any (faultyText (asked fault names) nulls t at) 1 ≡ false
+abbrev pub ClearAt : TextOrder → List ℕ → List ℕ → ℕ → Type 0
+ClearAt o names t at = Clear names (nameBy o t at .start) (nameBy o t at .len)
+
+clear-row : (fault : TextFault) (names t : List ℕ) (nulls at : ℕ) → ClearAt StartFirst names t at → any (faultyText (asked fault names) nulls t at) 1 ≡ false
 unfolding faultyText textAt
 clear-row fault names t nulls at h = any-none (faultyText (asked fault names) nulls t at) 1 (λ i l. let d : i ≡ 0 = omega arith in ap (faultyText (asked fault names) nulls t at) d ∙ only)
   where
@@ -143,27 +151,27 @@ pub roomy-same : (t : List ℕ) (size base texts n m : ℕ) → Roomy t size bas
 roomy-same t size base texts n m h e = subst (λ (n : ℕ). Roomy t size base texts n) (sym e) h
 
 -- a cursor has passed rows whose one text is clear: whatever no such row has, a search has not met on the way
-pub record Passed (names t : List ℕ) (size base texts : ℕ) (c d : Cursor) : Type 0 where
+pub record Passed (o : TextOrder) (names t : List ℕ) (size base texts : ℕ) (c d : Cursor) : Type 0 where
   pub after : c .row ≤ d .row
   pub end : d .end ≡ c .end
-  pub on : (p : ℕ → Bool) → ((i : ℕ) → texts ≡ 1 → ClearAt names t (size * i + base) → p i ≡ false) → Seeking p (c .row) (c .end) → Seeking p (d .row) (d .end)
+  pub on : (p : ℕ → Bool) → ((i : ℕ) → texts ≡ 1 → ClearAt o names t (size * i + base) → p i ≡ false) → Seeking p (c .row) (c .end) → Seeking p (d .row) (d .end)
 
-module _ (names t : List ℕ) (size base texts : ℕ) where
-  pub passed-none : (c : Cursor) → Passed names t size base texts c c
+module _ (o : TextOrder) (names t : List ℕ) (size base texts : ℕ) where
+  pub passed-none : (c : Cursor) → Passed o names t size base texts c c
   passed-none c = record { after = le-refl (c .row); end = refl; on = λ p h s. s }
 
-  pub passed-more : (a c d : Cursor) (here : Name) (b : Bool) → Passed names t size base texts a c → texts ≡ 1 → here ≡ nameAt t (size * c .row + base)
-      → (b ≡ true → Clear names (here .start) (here .len)) → not b ≡ false → c .row < c .end → d .row ≡ c .row + 1 → d .end ≡ c .end → Passed names t size base texts a d
-  passed-more a c d here b h o w s n l u v = record {
+  pub passed-more : (a c d : Cursor) (here : Name) (b : Bool) → Passed o names t size base texts a c → texts ≡ 1 → here ≡ nameBy o t (size * c .row + base)
+      → (b ≡ true → Clear names (here .start) (here .len)) → not b ≡ false → c .row < c .end → d .row ≡ c .row + 1 → d .end ≡ c .end → Passed o names t size base texts a d
+  passed-more a c d here b h f w s n l u v = record {
     after = omega (arith, h .after, u);
     end = v ∙ h .end;
-    on = λ p g k. cursor-more p (c .row) (d .row) (c .end) (d .end) false (h .on p g k) l (sym (g (c .row) o (subst (λ (x : Name). Clear names (x .start) (x .len)) w (s (not-false b n))))) refl u v;
+    on = λ p g k. cursor-more p (c .row) (d .row) (c .end) (d .end) false (h .on p g k) l (sym (g (c .row) f (subst (λ (x : Name). Clear names (x .start) (x .len)) w (s (not-false b n))))) refl u v;
   }
 
-  -- a search for rows at fault
-  pub passed-on : (fault : TextFault) (nulls : ℕ) (c d : Cursor) → Passed names t size base texts c d
-      → Seeking (rowFault (asked fault names) size base texts nulls t) (c .row) (c .end) → Seeking (rowFault (asked fault names) size base texts nulls t) (d .row) (d .end)
-  unfolding rowFault
-  passed-on fault nulls c d h =
-      h .on (rowFault (asked fault names) size base texts nulls t)
-      (λ i o w. ap (any (faultyText (asked fault names) nulls t (size * i + base))) o ∙ clear-row fault names t nulls (size * i + base) w)
+-- a search for rows at fault
+pub passed-on : (names t : List ℕ) (size base texts : ℕ) (fault : TextFault) (nulls : ℕ) (c d : Cursor) → Passed StartFirst names t size base texts c d
+    → Seeking (rowFault (asked fault names) size base texts nulls t) (c .row) (c .end) → Seeking (rowFault (asked fault names) size base texts nulls t) (d .row) (d .end)
+unfolding rowFault
+passed-on names t size base texts fault nulls c d h =
+    h .on (rowFault (asked fault names) size base texts nulls t)
+    (λ i o w. ap (any (faultyText (asked fault names) nulls t (size * i + base))) o ∙ clear-row fault names t nulls (size * i + base) w)

@@ -18,7 +18,9 @@ pub use put::put_header;
 pub use put::start_by;
 pub use refusals::accept;
 pub use refusals::check_rows;
+pub use rows::is_faulty;
 pub use rows::rows_of;
+pub use rows::skip_clear;
 pub use tables::TABLE_COUNT;
 pub use tables::cut;
 pub use tables::slice_of;
@@ -207,6 +209,12 @@ pub struct Layout {
 pub enum TextFault {
     Outside,
     Either,
+}
+
+// How the two numbers of a text stand: the start before the length, as in rows, or behind it, as in a column of little-endian numbers.
+pub enum TextOrder {
+    StartFirst,
+    LengthFirst,
 }
 
 // What a check of some reasons says: none is there, or the first that is.

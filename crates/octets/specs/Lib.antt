@@ -3,6 +3,8 @@ pub mod OctetLaws
 pub mod BufferLaws
 pub mod Search
 pub mod SearchLaws
+pub mod Counts
+pub mod SkipLaws
 pub mod Gather
 pub mod GatherLaws
 pub mod Numbers
@@ -12,3 +14,4 @@ pub mod TextLaws
 pub mod TableLaws
 pub mod Slices
 pub mod SliceLaws
+pub mod RunLaws

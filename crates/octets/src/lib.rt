@@ -1,13 +1,13 @@
 // Numbers and texts in octets.
 ghost use mathlib.Core.Path.{_≡_};
-ghost use Prim.Native.Nat.{_+_, _≤_, _<_};
+ghost use Prim.Native.Nat.{_+_, _≤_, _<_, min};
 ghost use lib.ListN.{length};
 ghost use lib.Seq.{sets};
 ghost use lib.IntN.{sucℤ};
 ghost use lib.Signed.{ltZ};
 ghost use Rattle.octets.specs.Octets.{le32, le64, part, word};
 ghost use Rattle.octets.specs.Numbers.{signed, eqZ, biased};
-ghost use Rattle.octets.specs.Texts.{same, textOf, textAt, outside, nameAt, spell, octetsOf};
+ghost use Rattle.octets.specs.Texts.{same, textOf, textAt, outside, nameAt, spell};
 ghost use Rattle.octets.specs.TextLaws.{Alike};
 
 // A text that is never NULL: where it starts in the names, and how long it is.
@@ -197,6 +197,13 @@ pub fn is_name(names: &[u8], n: Name, octets: &[u8]) -> bool
     ensures { λ r. ⌜ r ≡ same (spell (now (names .entry)) n) (now (octets .entry)) ⌝ }
 {
     equal(spelled(names, n), octets)
+}
+
+// The lesser of two numbers.
+pub fn least(a: usize, b: usize) -> usize
+    ensures { λ r. ⌜ r ≡ min a b ⌝ }
+{
+    if a < b { a } else { b }
 }
 
 // ---- numbers with a sign, by their patterns

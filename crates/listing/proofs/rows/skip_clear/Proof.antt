@@ -8,10 +8,10 @@ use Rattle.listing.proofs.rows.skip_clear.Statement.{statement}
 use Rattle.listing.proofs.rows.skip_clear.Tie as tie
 
 abbrev Inv-loop : tie.InvT-loop
-Inv-loop size base texts table names marks last₀ c₀ last c = Passed names table size base texts c₀ c × Clear names (last .start) (last .len)
+Inv-loop order size base texts table names marks last₀ c₀ last c = Passed order names table size base texts c₀ c × Clear names (last .start) (last .len)
 
 abbrev μ-loop : tie.MeasureT-loop
-μ-loop size base texts table names marks last₀ c₀ last c = c .end - c .row
+μ-loop order size base texts table names marks last₀ c₀ last c = c .end - c .row
 
 pub skip-clear-spec : {M : Type 1} → statement M
 skip-clear-spec =
