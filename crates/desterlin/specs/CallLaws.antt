@@ -10,6 +10,7 @@ use lib.IntN.{ℤ}
 use lib.ListN.{length, getD, drop}
 use Rattle.octets.specs.Octets.{le32}
 use Rattle.listing.specs.Refusals.{outcome, numberOf, isAccepted}
+use Rattle.listing.specs.declared.Outcome.{Outcome}
 use Rattle.findings.specs.Findings.{Finding}
 use Rattle.findings.specs.Answers.{reported, verdictOf, isRefused, lookupOf}
 use Rattle.findings.specs.Words.{wordsOf, writtenOf, bufferOf, reportWords, rulingWords, locatedWords, answered}
@@ -22,24 +23,24 @@ use Rattle.findings.specs.declared.Ruling.{Ruling}
 use Rattle.findings.specs.declared.Ruling.the-variants.{Pass, Fail, NotTestable, Refused}
 use Rattle.findings.specs.declared.Located.{Located}
 use Rattle.findings.specs.declared.Located.the-variants as look
-use Rattle.desterlin.specs.Calls.{ReportCall, VerdictCall, LookupCall}
+use Rattle.desterlin.specs.Calls.{ReportAnswer, ReportCall, VerdictCall, LookupAnswer, LookupCall}
 
 -- ---- two answers that keep one promise are the same
-pub report-one : {s b w a : List ℕ} {r₁ r₂ : ℕ} {b₁ b₂ w₁ w₂ a₁ a₂ : List ℕ}
-    → ReportCall s b w a r₁ b₁ w₁ a₁ → ReportCall s b w a r₂ b₂ w₂ a₂ → (r₁ ≡ r₂) × (b₁ ≡ b₂) × (a₁ ≡ a₂)
+pub report-one : {o : Outcome} {fs : List Finding} {b w a : List ℕ} {r₁ r₂ : ℕ} {b₁ b₂ w₁ w₂ a₁ a₂ : List ℕ}
+    → ReportAnswer o fs b w a r₁ b₁ w₁ a₁ → ReportAnswer o fs b w a r₂ b₂ w₂ a₂ → (r₁ ≡ r₂) × (b₁ ≡ b₂) × (a₁ ≡ a₂)
 report-one p q = (p .status ∙ sym (q .status), p .findings ∙ sym (q .findings), p .answer ∙ sym (q .answer))
 
 pub verdict-one : {s : List ℕ} {code : ℕ} {w a : List ℕ} {r₁ r₂ : ℕ} {w₁ w₂ a₁ a₂ : List ℕ}
     → VerdictCall s code w a r₁ w₁ a₁ → VerdictCall s code w a r₂ w₂ a₂ → (r₁ ≡ r₂) × (a₁ ≡ a₂)
 verdict-one p q = (p .status ∙ sym (q .status), p .answer ∙ sym (q .answer))
 
-pub lookup-one : {s : List ℕ} {k : ℕ} {z c i : ℤ} {a : List ℕ} {r₁ r₂ : ℕ} {a₁ a₂ : List ℕ}
-    → LookupCall s k z c i a r₁ a₁ → LookupCall s k z c i a r₂ a₂ → (r₁ ≡ r₂) × (a₁ ≡ a₂)
+pub lookup-one : {v : Located} {a : List ℕ} {r₁ r₂ : ℕ} {a₁ a₂ : List ℕ}
+    → LookupAnswer v a r₁ a₁ → LookupAnswer v a r₂ a₂ → (r₁ ≡ r₂) × (a₁ ≡ a₂)
 lookup-one p q = (p .status ∙ sym (q .status), p .answer ∙ sym (q .answer))
 
 -- the answer and the findings do not depend on the workspace, neither its size nor what it holds
-pub report-any-work : {s b w v a : List ℕ} {r₁ r₂ : ℕ} {b₁ b₂ w₁ v₂ a₁ a₂ : List ℕ}
-    → ReportCall s b w a r₁ b₁ w₁ a₁ → ReportCall s b v a r₂ b₂ v₂ a₂ → (r₁ ≡ r₂) × (b₁ ≡ b₂) × (a₁ ≡ a₂)
+pub report-any-work : {o : Outcome} {fs : List Finding} {b w v a : List ℕ} {r₁ r₂ : ℕ} {b₁ b₂ w₁ v₂ a₁ a₂ : List ℕ}
+    → ReportAnswer o fs b w a r₁ b₁ w₁ a₁ → ReportAnswer o fs b v a r₂ b₂ v₂ a₂ → (r₁ ≡ r₂) × (b₁ ≡ b₂) × (a₁ ≡ a₂)
 report-any-work p q = (p .status ∙ sym (q .status), p .findings ∙ sym (q .findings), p .answer ∙ sym (q .answer))
 
 pub verdict-any-work : {s : List ℕ} {code : ℕ} {w v a : List ℕ} {r₁ r₂ : ℕ} {w₁ v₂ a₁ a₂ : List ℕ}
@@ -47,7 +48,7 @@ pub verdict-any-work : {s : List ℕ} {code : ℕ} {w v a : List ℕ} {r₁ r₂
 verdict-any-work p q = (p .status ∙ sym (q .status), p .answer ∙ sym (q .answer))
 
 -- ---- "where the answer buffer is too short, nothing is written and 0 is returned"
-pub report-short-kept : {s b w a : List ℕ} {r : ℕ} {b′ w′ a′ : List ℕ} → ReportCall s b w a r b′ w′ a′ → length a < 20 → (r ≡ 0) × (b′ ≡ b) × (w′ ≡ w) × (a′ ≡ a)
+pub report-short-kept : {o : Outcome} {fs : List Finding} {b w a : List ℕ} {r : ℕ} {b′ w′ a′ : List ℕ} → ReportAnswer o fs b w a r b′ w′ a′ → length a < 20 → (r ≡ 0) × (b′ ≡ b) × (w′ ≡ w) × (a′ ≡ a)
 report-short-kept {a = a} p h =
     let t = lt-ltb (length a) 20 h in
     (p .status ∙ rw t, p .findings ∙ rw t, p .short t, p .answer ∙ rw t)
@@ -57,7 +58,7 @@ verdict-short-kept {a = a} p h =
     let t = lt-ltb (length a) 20 h in
     (p .status ∙ rw t, p .short t, p .answer ∙ rw t)
 
-pub lookup-short-kept : {s : List ℕ} {k : ℕ} {z c i : ℤ} {a : List ℕ} {r : ℕ} {a′ : List ℕ} → LookupCall s k z c i a r a′ → length a < 16 → (r ≡ 0) × (a′ ≡ a)
+pub lookup-short-kept : {v : Located} {a : List ℕ} {r : ℕ} {a′ : List ℕ} → LookupAnswer v a r a′ → length a < 16 → (r ≡ 0) × (a′ ≡ a)
 lookup-short-kept {a = a} p h =
     let t = lt-ltb (length a) 16 h in
     (p .status ∙ rw t, p .answer ∙ rw t)
@@ -67,7 +68,7 @@ pub answer-read : (size : ℕ) (ws a a′ : List ℕ) (k : ℕ) → size ≤ len
 answer-read size ws a a′ k h f l e =
     ap (λ (x : List ℕ). le32 x (4 * k)) (e ∙ rw (le-ltb (length a) size h)) ∙ words-read ws (drop size a) k f l
 
-module _ {s b w a : List ℕ} {r : ℕ} {b′ w′ a′ : List ℕ} (p : ReportCall s b w a r b′ w′ a′) (whole : 20 ≤ length a) where
+module _ (s : List ℕ) {b w a : List ℕ} {r : ℕ} {b′ w′ a′ : List ℕ} (p : ReportCall s b w a r b′ w′ a′) (whole : 20 ≤ length a) where
   pub report-reads : (k : ℕ) → k < 5 → le32 a′ (4 * k) ≡ getD (reportWords s b) k 0
   unfolding reportWords
   report-reads k l = answer-read 20 (reportWords s b) a a′ k whole (report-fits s b) l (p .answer)
@@ -137,9 +138,9 @@ module _ {s : List ℕ} {code : ℕ} {w a : List ℕ} {r : ℕ} {w′ a′ : Lis
       by NotTestable q = absurd (omega arith)
       by (Refused n t z) q = refl
 
-pub lookup-reads : {s : List ℕ} {k : ℕ} {z c i : ℤ} {a : List ℕ} {r : ℕ} {a′ : List ℕ} → LookupCall s k z c i a r a′ → 16 ≤ length a
+pub lookup-reads : (s : List ℕ) (k : ℕ) (z c i : ℤ) {a : List ℕ} {r : ℕ} {a′ : List ℕ} → LookupCall s k z c i a r a′ → 16 ≤ length a
     → (j : ℕ) → j < 4 → le32 a′ (4 * j) ≡ getD (locatedWords (lookupOf s k z c i)) j 0
-lookup-reads {s} {k} {z} {c} {i} {a} {r} {a′} p whole j l =
+lookup-reads s k z c i {a} {r} {a′} p whole j l =
     answer-read 16 (locatedWords (lookupOf s k z c i)) a a′ j whole (lookup-fits s k z c i) (subst (λ (n : ℕ). j < n) (sym (four (lookupOf s k z c i))) l) (p .answer)
   where
     four : (v : Located) → length (locatedWords v) ≡ 4

@@ -24,6 +24,7 @@ use Rattle.writer.specs.WriteLaws.{sized, refusalOr, as-reader, reader-accepts,
 use Rattle.writer.specs.declared.Written.{Written}
 use Rattle.writer.specs.declared.Written.the-variants.{Octets, Refused}
 use Rattle.pack.specs.Tables.{packIn, packOf}
+use Rattle.pack.specs.declared.Form.the-variants as form
 use Rattle.findings.specs.Demands.{AllFit}
 use Rattle.findings.specs.RefusedLaws.{written-fit, place-fits}
 use Rattle.desterlin.specs.Calls.{writtenWords, WriteCall}
@@ -121,9 +122,9 @@ module _ {ts : List (List ℕ)} {b a : List ℕ} {r : ℕ} {b′ a′ : List ℕ
         ap tablesOf write-front
         ∙ tables-are (written (numbered ts)) ts seven (reader-tables (numbered ts) (length b) (length (written (numbered ts))) answered (numbered-seven ts seven))
 
-    pub write-pack : packOf (take (le32 a′ 12) b′) ≡ packIn ts
+    pub write-pack : packOf (take (le32 a′ 12) b′) ≡ packIn form.Rows ts
     unfolding packOf
-    write-pack = ap packIn write-tables
+    write-pack = ap (packIn form.Rows) write-tables
 
   -- "buffer octets past the listing keep their values"
   pub write-past : (j : ℕ) → le32 a′ 12 ≤ j → getD b′ j 0 ≡ getD b j 0

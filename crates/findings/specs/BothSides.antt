@@ -20,7 +20,7 @@ use Rattle.utf8.specs.Utf8.{inRange, table37, size, wellFormed}
 use Rattle.listing.specs.Listing.{row, most, version, total, count, offset, start, table, tablesOf, rows}
 use Rattle.listing.specs.Refusals.{over, moved, textBase, textCount, nullCount, faultyText, faultyRow, lowestFaultyRow, faultyTable, badContents, headerReasons, rowReasons, outcome, numberOf, tableOf, rowOf}
 use Rattle.pack.specs.Rows.{Rows, Content, MatrixSet, Matrix, Tile, Extension, rowsIn}
-use Rattle.pack.specs.Tables.{packOf}
+use Rattle.pack.specs.Tables.{tileCount, tileIn, packOf}
 use Rattle.rules.specs.Judgments.{none, partner}
 use Rattle.rules.specs.References.{hasId, lacksId}
 use Rattle.rules.specs.Contents.{ofType, isMap, none171, of151, setNamed}
@@ -108,5 +108,5 @@ lines =
 
 -- the definitions say what document 01 says, on every line
 pub both-sides : map (λ l. l .0) lines ≡ map (λ l. l .1) lines
-unfolding headerAlone quoted le32 le64 part first any same textAt positive near magnitude gapAbove gapOf difference withinFour sameLength measuresBy measures form fits misfit twoDigits fourDigits leap monthLengths commonLength leapFebruary monthLength inCalendar onClock isDate between alphanumeric nameOctet underscoreAt strangeAt inside isExtensionName row most version total count offset start table tablesOf nth rows over moved textBase textCount nullCount faultyText faultyRow lowestFaultyRow faultyTable inRange table37 size wellFormed badContents headerReasons rowReasons outcome packOf partner hasId lacksId ofType isMap none171 of151 setNamed matrixNamed atLevel fits451 measured of451 offGrid off561 placed of561 of621 codeAt tableAt judged judgedNone atRow atNone rowsIn ofCode ofPlace findings reported lt le sub mul ofInt ofBits toBits
+unfolding headerAlone quoted le32 le64 part first any same textAt positive near magnitude gapAbove gapOf difference withinFour sameLength measuresBy measures form fits misfit twoDigits fourDigits leap monthLengths commonLength leapFebruary monthLength inCalendar onClock isDate between alphanumeric nameOctet underscoreAt strangeAt inside isExtensionName row most version total count offset start table tablesOf nth rows over moved textBase textCount nullCount faultyText faultyRow lowestFaultyRow faultyTable inRange table37 size wellFormed badContents headerReasons rowReasons outcome tileCount tileIn packOf partner hasId lacksId ofType isMap none171 of151 setNamed matrixNamed atLevel fits451 measured of451 offGrid off561 placed of561 of621 codeAt tableAt judged judgedNone atRow atNone rowsIn ofCode ofPlace findings reported lt le sub mul ofInt ofBits toBits
 both-sides = refl

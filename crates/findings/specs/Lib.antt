@@ -1,5 +1,6 @@
 pub mod Findings
 pub mod Answers
+pub mod ColumnAnswers
 pub mod Words
 pub mod Demands
 pub mod BothSides
@@ -16,3 +17,4 @@ pub mod RulingLaws
 pub mod LocatedLaws
 pub mod WordLaws
 pub mod FarLaws
+pub mod ColumnLaws

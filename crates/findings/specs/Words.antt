@@ -6,6 +6,7 @@ use lib.Dec.{ltb}
 use lib.ListN.{length, take, drop}
 use Rattle.octets.specs.Octets.{word}
 use Rattle.listing.specs.Refusals.{outcome, numberOf, tableOf, rowOf}
+use Rattle.listing.specs.declared.Outcome.{Outcome}
 use Rattle.rules.specs.Judgments.{none}
 use Rattle.findings.specs.Findings.{Finding}
 use Rattle.findings.specs.Answers.{reported}
@@ -43,9 +44,11 @@ bufferOf fs b = findingOctets (take (writtenOf fs b) fs) ++ drop (4 * findingWor
 
 -- ---- the words of the three answers
 -- report: number and place, total, written
+abbrev pub reportWordsBy : Outcome → List Finding → List ℕ → List ℕ
+reportWordsBy o fs b = numberOf o ∷ tableOf o ∷ rowOf o ∷ length fs ∷ writtenOf fs b ∷ []
+
 unfoldable pub reportWords : List ℕ → List ℕ → List ℕ
-reportWords s b =
-    numberOf (outcome s) ∷ tableOf (outcome s) ∷ rowOf (outcome s) ∷ length (reported s) ∷ writtenOf (reported s) b ∷ []
+reportWords s b = reportWordsBy (outcome s) (reported s) b
 
 -- verdict: 0 pass, 1 fail, 2 not testable, 3 refused; its row, 4294967295 "unless it is a fail with a row"; number and place
 abbrev pub rulingWords : Ruling → List ℕ

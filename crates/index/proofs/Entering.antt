@@ -27,6 +27,9 @@ pub print-small : (y : ℕ) → printOf y < printRange
 unfolding printOf
 print-small y = mod-lt y (omega arith)
 
+pub heads-there : {m : ℕ} → 0 < m → m ≡ 0 → ⊥
+heads-there l e = omega (arith, l, e)
+
 module _ {K : Type 0} {key : ℕ → K} {passes : K → ℕ → Bool} {mixOf : K → ℕ} {w : List ℕ} {m rows : ℕ} where
   -- with no head
   pub keyed-none : {n : ℕ} → m ≡ 0 → Keyed key passes mixOf w m rows n

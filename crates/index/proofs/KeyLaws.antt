@@ -1,6 +1,6 @@
 -- Keys of every kind: a row that answers to a key has it (sound), and a row of a sure kind answers to its own (own).
 use Prim.Native.Nat.{ℕ}
-use mathlib.Core.Path.{_≡_, refl, sym, ap, _∙_, subst}
+use mathlib.Core.Path.{_≡_, refl, sym, ap, _∙_}
 use mathlib.Core.List.{List}
 use mathlib.Core.Bool.{Bool, true, not, _&&_, and-eq-true-iff, false≢true}
 use lib.IntN.{ℤ, pos, negsuc}
@@ -13,41 +13,27 @@ use Rattle.octets.specs.TextLaws.{same-equal, same-refl}
 use Rattle.pack.specs.declared.ContentsRow.{ContentsRow}
 use Rattle.pack.specs.declared.SetRow.{SetRow}
 use Rattle.pack.specs.declared.MatrixRow.{MatrixRow}
-use Rattle.pack.specs.declared.TileRow.{TileRow}
-use Rattle.pack.specs.Tables.{contentsRow, setRow, matrixRow, tileRow, contentOf, setOf, matrixOf, tileOf, contentsOf, setsOf, matricesOf, tilesOf}
+use Rattle.pack.specs.Tables.{contentsRow, setRow, matrixRow, contentOf, setOf, matrixOf, contentsOf, setsOf, matricesOf}
 use Rattle.spelling.specs.Words.{tiles}
 use Rattle.rules.specs.Contents.{ofType, givesTiles, setNamed}
-use Rattle.rules.specs.Matrices.{matrixNamed, atLevel, tileNamed, finer, breaks531}
-use Rattle.rules.specs.Tiles.{atAddress}
+use Rattle.rules.specs.Matrices.{matrixNamed, atLevel, finer, breaks531}
 use Rattle.index.specs.declared.Kind.{Kind}
 use Rattle.index.specs.declared.Kind.the-variants as kind
 use Rattle.index.specs.declared.Key.{Key}
 use Rattle.index.specs.declared.Key.the-variants as key
-use Rattle.index.specs.Keys.{keyOf, answers, sure, kindOf, meaning, addressOf}
+use Rattle.index.specs.Keys.{keyOf, answers, sure, kindOf, meaning}
 
-eqZ-refl : (z : ℤ) → eqZ z z ≡ true
+pub eqZ-refl : (z : ℤ) → eqZ z z ≡ true
 eqZ-refl (pos a) = eq-eqb a a refl
 eqZ-refl (negsuc a) = eq-eqb a a refl
 
-module _ (t names : List ℕ) where
-  -- a key that is a name alone
-  by-name : {x y : List ℕ} → x ≡ y → _≡_ {A = List ℕ × ℤ × ℤ × ℤ} (x, pos 0, pos 0, pos 0) (y, pos 0, pos 0, pos 0)
-  by-name e i = (e i, pos 0, pos 0, pos 0)
+-- a key that is a name alone
+pub by-name : {x y : List ℕ} → x ≡ y → _≡_ {A = List ℕ × ℤ × ℤ × ℤ} (x, pos 0, pos 0, pos 0) (y, pos 0, pos 0, pos 0)
+by-name e i = (e i, pos 0, pos 0, pos 0)
 
+module _ (t names : List ℕ) where
   sound : (a : Key) (k : ℕ) → answers (kindOf a) t names (meaning names a) k ≡ true → meaning names a ≡ keyOf (kindOf a) t names k
-  unfolding atAddress tileNamed atLevel matrixNamed givesTiles setNamed
-  sound (key.Address x z c r) k e =
-      let q = tilesOf t names .row k in
-      let a = meaning names (key.Address x z c r) in
-      let f = and-eq-true-iff (same (a .0) (q .name)) (eqZ (a .1) (q .zoom) && (eqZ (a .2) (q .column) && eqZ (a .3) (q .row))) .0 e in
-      let g = and-eq-true-iff (eqZ (a .1) (q .zoom)) (eqZ (a .2) (q .column) && eqZ (a .3) (q .row)) .0 (f .1) in
-      let h = and-eq-true-iff (eqZ (a .2) (q .column)) (eqZ (a .3) (q .row)) .0 (g .1) in
-      let x' : a .0 ≡ q .name = same-equal _ _ (f .0) in
-      let z' : a .1 ≡ q .zoom = eqZ-true _ _ (g .0) in
-      let c' : a .2 ≡ q .column = eqZ-true _ _ (h .0) in
-      let r' : a .3 ≡ q .row = eqZ-true _ _ (h .1) in
-      λ i. (x' i, z' i, c' i, r' i)
-  sound (key.TileName x) k e = by-name (same-equal _ _ e)
+  unfolding atLevel matrixNamed givesTiles setNamed
   sound (key.Level x z) k e =
       let q = matricesOf t names .row k in
       let a = meaning names (key.Level x z) in
@@ -65,9 +51,7 @@ module _ (t names : List ℕ) where
   key-sound s a e k f = rw e at (sound a k (rw (← e) at f))
 
   own : (s : Kind) → sure s ≡ true → (k : ℕ) → answers s t names (keyOf s t names k) k ≡ true
-  unfolding atAddress tileNamed atLevel matrixNamed setNamed
-  own kind.Address o k = let q = tilesOf t names .row k in simp (sym (same-refl (q .name)), eqZ-refl (q .zoom), eqZ-refl (q .column), eqZ-refl (q .row))
-  own kind.TileName o k = sym (same-refl (tilesOf t names .row k .name))
+  unfolding atLevel matrixNamed setNamed
   own kind.Level o k = let q = matricesOf t names .row k in simp (sym (same-refl (q .name)), eqZ-refl (q .zoom))
   own kind.MatrixName o k = sym (same-refl (matricesOf t names .row k .name))
   own kind.TilesName o k = absurd (false≢true o)
@@ -80,18 +64,6 @@ module _ (t names : List ℕ) where
 
   -- the code reads the key of row k
   module _ (k : ℕ) where
-    pub read-address : (q : TileRow) → q ≡ tileRow t k → meaning names (key.Address (q .name) (q .zoom) (q .column) (q .row)) ≡ keyOf kind.Address t names k
-    unfolding tileOf
-    read-address q e = ap (λ (r : TileRow). meaning names (key.Address (r .name) (r .zoom) (r .column) (r .row))) e
-
-    -- and row k answers to it
-    pub address-own : (q : TileRow) → q ≡ tileRow t k → answers kind.Address t names (addressOf names q) k ≡ true
-    address-own q e = subst (λ (a : List ℕ × ℤ × ℤ × ℤ). answers kind.Address t names a k ≡ true) (sym (read-address q e)) (own kind.Address refl k)
-
-    pub read-tile-name : (q : TileRow) → q ≡ tileRow t k → meaning names (key.TileName (q .name)) ≡ keyOf kind.TileName t names k
-    unfolding tileOf
-    read-tile-name q e = ap (λ (r : TileRow). meaning names (key.TileName (r .name))) e
-
     pub read-level : (q : MatrixRow) → q ≡ matrixRow t k → meaning names (key.Level (q .name) (q .zoom)) ≡ keyOf kind.Level t names k
     unfolding matrixOf
     read-level q e = ap (λ (r : MatrixRow). meaning names (key.Level (r .name) (r .zoom))) e

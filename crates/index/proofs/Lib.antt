@@ -2,4 +2,5 @@ pub mod Words
 pub mod Walks
 pub mod Entering
 pub mod KeyLaws
+pub mod TileKeyLaws
 pub mod Shelving

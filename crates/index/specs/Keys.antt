@@ -1,4 +1,4 @@
--- What is indexed, and by which key: a name, and with it the numbers that a rule compares, 0 for those that it does not.
+-- What is indexed beside tiles, and by which key: a name, and with it the numbers that a rule compares, 0 for those that it does not.
 use Prim.Native.Nat.{ℕ, _/_}
 use mathlib.Core.List.{List}
 use mathlib.Core.Bool.{Bool, true, false}
@@ -10,11 +10,9 @@ use Rattle.octets.specs.Numbers.{signed}
 use Rattle.octets.specs.Texts.{spell}
 use Rattle.octets.specs.declared.Name.{Name}
 use Rattle.pack.specs.declared.MatrixRow.{MatrixRow}
-use Rattle.pack.specs.declared.TileRow.{TileRow}
-use Rattle.pack.specs.Tables.{matrixOf, contentsOf, setsOf, matricesOf, tilesOf}
+use Rattle.pack.specs.Tables.{matrixOf, contentsOf, setsOf, matricesOf}
 use Rattle.rules.specs.Contents.{givesTiles, setNamed}
-use Rattle.rules.specs.Matrices.{matrixNamed, atLevel, tileNamed, breaks531}
-use Rattle.rules.specs.Tiles.{atAddress}
+use Rattle.rules.specs.Matrices.{matrixNamed, atLevel, breaks531}
 use Rattle.seek.specs.Tests.{matrixPasses}
 use Rattle.seek.specs.declared.MatrixTest.{MatrixTest}
 use Rattle.index.specs.declared.Kind.{Kind}
@@ -26,8 +24,6 @@ use Rattle.index.specs.Work.{headsFor, Keyed, Entered}
 
 -- how many rows the table of a kind has
 abbrev pub rowCount : Kind → List ℕ → ℕ
-rowCount kind.Address t = length t / 32
-rowCount kind.TileName t = length t / 32
 rowCount kind.Level t = length t / 64
 rowCount kind.MatrixName t = length t / 64
 rowCount kind.TilesName t = length t / 40
@@ -35,8 +31,6 @@ rowCount kind.SetName t = length t / 48
 
 -- the key of row k
 abbrev pub keyOf : Kind → List ℕ → List ℕ → ℕ → (List ℕ × ℤ × ℤ × ℤ)
-keyOf kind.Address t names k = (tilesOf t names .row k .name, tilesOf t names .row k .zoom, tilesOf t names .row k .column, tilesOf t names .row k .row)
-keyOf kind.TileName t names k = (tilesOf t names .row k .name, pos 0, pos 0, pos 0)
 keyOf kind.Level t names k = (matricesOf t names .row k .name, matricesOf t names .row k .zoom, pos 0, pos 0)
 keyOf kind.MatrixName t names k = (matricesOf t names .row k .name, pos 0, pos 0, pos 0)
 keyOf kind.TilesName t names k = (contentsOf t names .row k .name, pos 0, pos 0, pos 0)
@@ -44,8 +38,6 @@ keyOf kind.SetName t names k = (setsOf t names .row k .name, pos 0, pos 0, pos 0
 
 -- row k answers to the key a, in the words of the rules. A contents row that makes its name no tiles name answers to none
 abbrev pub answers : Kind → List ℕ → List ℕ → (List ℕ × ℤ × ℤ × ℤ) → ℕ → Bool
-answers kind.Address t names a k = atAddress (a .0) (a .1) (a .2) (a .3) (tilesOf t names .row k)
-answers kind.TileName t names a k = tileNamed (a .0) (tilesOf t names .row k)
 answers kind.Level t names a k = atLevel (a .0) (a .1) (matricesOf t names .row k)
 answers kind.MatrixName t names a k = matrixNamed (a .0) (matricesOf t names .row k)
 answers kind.TilesName t names a k = givesTiles (a .0) (contentsOf t names .row k)
@@ -53,8 +45,6 @@ answers kind.SetName t names a k = setNamed (a .0) (setsOf t names .row k)
 
 -- every row of a kind answers to its own key
 abbrev pub sure : Kind → Bool
-sure kind.Address = true
-sure kind.TileName = true
 sure kind.Level = true
 sure kind.MatrixName = true
 sure kind.TilesName = false
@@ -62,33 +52,21 @@ sure kind.SetName = true
 
 -- a key as the code has it: its kind, and what it is
 abbrev pub kindOf : Key → Kind
-kindOf (key.Address x z c r) = kind.Address
-kindOf (key.TileName x) = kind.TileName
 kindOf (key.Level x z) = kind.Level
 kindOf (key.MatrixName x) = kind.MatrixName
 kindOf (key.TilesName x) = kind.TilesName
 kindOf (key.SetName x) = kind.SetName
 
 abbrev pub meaning : List ℕ → Key → (List ℕ × ℤ × ℤ × ℤ)
-meaning names (key.Address x z c r) = (spell names x, signed z, signed c, signed r)
-meaning names (key.TileName x) = (spell names x, pos 0, pos 0, pos 0)
 meaning names (key.Level x z) = (spell names x, signed z, pos 0, pos 0)
 meaning names (key.MatrixName x) = (spell names x, pos 0, pos 0, pos 0)
 meaning names (key.TilesName x) = (spell names x, pos 0, pos 0, pos 0)
 meaning names (key.SetName x) = (spell names x, pos 0, pos 0, pos 0)
 
--- the address that a tile row has
-abbrev pub addressOf : List ℕ → TileRow → (List ℕ × ℤ × ℤ × ℤ)
-addressOf names a = (spell names (a .name), signed (a .zoom), signed (a .column), signed (a .row))
-
 -- ---- what a walk asks of row k
 -- whether it answers to a key
 abbrev pub answersTo : List ℕ → List ℕ → Key → ℕ → Bool
 answersTo t names a = answers (kindOf a) t names (meaning names a)
-
--- whether it is at the address of a tile row
-abbrev pub addressed : List ℕ → List ℕ → TileRow → ℕ → Bool
-addressed t names a = answers kind.Address t names (addressOf names a)
 
 -- whether it has a level
 abbrev pub leveled : List ℕ → List ℕ → Name → ℕ → ℕ → Bool

@@ -4,3 +4,4 @@ pub mod Work
 pub mod WorkLaws
 pub mod Hashes
 pub mod Keys
+pub mod TileKeys

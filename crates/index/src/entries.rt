@@ -50,14 +50,7 @@ fn walk(
 }
 
 // Enters row i, and answers the lowest row below it that answers to its key, or i.
-pub fn enter(
-    rows: &[u8],
-    names: &[u8],
-    work: &mut [u8],
-    heads: usize,
-    kind: Kind,
-    i: usize,
-) -> usize
+fn enter(rows: &[u8], names: &[u8], work: &mut [u8], heads: usize, kind: Kind, i: usize) -> usize
     requires { ⌜ Indexes kind (now rows) (now names) (now work) heads i × (i < rowCount kind (now rows)) ⌝ }
     ensures { λ r. ⌜ Enters kind (now (rows .entry)) (now (names .entry)) (now (work .exit)) heads i r ⌝ }
 {

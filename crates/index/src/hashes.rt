@@ -138,13 +138,6 @@ pub fn mix(names: &[u8], key: Key) -> usize
     ensures { λ r. ⌜ (r ≡ keyMix (meaning (now (names .entry)) key)) × (r < mixRange) ⌝ }
 {
     match key {
-        Key::Address {
-            name,
-            zoom,
-            column,
-            row,
-        } => mix_of(names, name, zoom, column, row),
-        Key::TileName(x) => mix_of(names, x, 0, 0, 0),
         Key::Level { name, zoom } => mix_of(names, name, zoom, 0, 0),
         Key::MatrixName(x) => mix_of(names, x, 0, 0, 0),
         Key::TilesName(x) => mix_of(names, x, 0, 0, 0),

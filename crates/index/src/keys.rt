@@ -7,19 +7,15 @@ use crate::Kind;
 use listing::ContentsTable;
 use listing::MatrixTable;
 use listing::SetTable;
-use listing::TileTable;
 use seek::ContentTest;
 use seek::MatrixTest;
 use seek::SetTest;
-use seek::TileTest;
 
 // How many rows the table of a kind has.
 pub fn count(rows: &[u8], kind: Kind) -> usize
     ensures { λ r. ⌜ r ≡ rowCount kind (now (rows .entry)) ⌝ }
 {
     match kind {
-        Kind::Address => rows.len() / (TileTable::ROW as usize),
-        Kind::TileName => rows.len() / (TileTable::ROW as usize),
         Kind::Level => rows.len() / (MatrixTable::ROW as usize),
         Kind::MatrixName => rows.len() / (MatrixTable::ROW as usize),
         Kind::TilesName => rows.len() / (ContentsTable::ROW as usize),
@@ -31,8 +27,6 @@ pub fn kind_of(key: Key) -> Kind
     ensures { λ r. ⌜ r ≡ kindOf key ⌝ }
 {
     match key {
-        Key::Address { .. } => Kind::Address,
-        Key::TileName(_) => Kind::TileName,
         Key::Level { .. } => Kind::Level,
         Key::MatrixName(_) => Kind::MatrixName,
         Key::TilesName(_) => Kind::TilesName,
@@ -45,20 +39,6 @@ pub fn key_at(rows: &[u8], names: &[u8], kind: Kind, k: usize) -> Key
     ensures { λ r. ⌜ (kindOf r ≡ kind) × (meaning (now (names .entry)) r ≡ keyOf kind (now (rows .entry)) (now (names .entry)) k) ⌝ }
 {
     match kind {
-        Kind::Address => {
-            let q = pack::tile_at(rows, k);
-            let name = q.name;
-            Key::Address {
-                name,
-                zoom: q.zoom,
-                column: q.column,
-                row: q.row,
-            }
-        }
-        Kind::TileName => {
-            let name = pack::tile_at(rows, k).name;
-            Key::TileName(name)
-        }
         Kind::Level => {
             let q = pack::matrix_at(rows, k);
             let name = q.name;
@@ -84,21 +64,6 @@ pub fn does_answer(rows: &[u8], names: &[u8], key: Key, k: usize) -> bool
     ensures { λ r. ⌜ r ≡ answersTo (now (rows .entry)) (now (names .entry)) key k ⌝ }
 {
     match key {
-        Key::Address {
-            name,
-            zoom,
-            column,
-            row,
-        } => {
-            let test = TileTest::Address {
-                name,
-                zoom,
-                column,
-                row,
-            };
-            seek::tile_passes(names, test, pack::tile_at(rows, k))
-        }
-        Key::TileName(x) => seek::tile_passes(names, TileTest::Named(x), pack::tile_at(rows, k)),
         Key::Level { name, zoom } => {
             let test = MatrixTest::Level { name, zoom };
             seek::matrix_passes(names, test, pack::matrix_at(rows, k))
@@ -122,8 +87,6 @@ fn is_sure(kind: Kind) -> bool
     ensures { λ r. ⌜ r ≡ sure kind ⌝ }
 {
     match kind {
-        Kind::Address => true,
-        Kind::TileName => true,
         Kind::Level => true,
         Kind::MatrixName => true,
         Kind::TilesName => false,

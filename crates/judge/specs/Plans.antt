@@ -5,8 +5,11 @@ use mathlib.Core.Bool.{cond}
 use lib.Dec.{eqb}
 use lib.ListN.{length}
 use Rattle.octets.specs.Slices.{nth}
-use Rattle.index.specs.declared.Kind.the-variants.{TileName, Level, MatrixName, TilesName, SetName}
+use Rattle.index.specs.declared.Kind.the-variants.{Level, MatrixName, TilesName, SetName}
+use Rattle.pack.specs.Tables.{tileCount, tilesIn}
+use Rattle.pack.specs.declared.Form.{Form}
 use Rattle.index.specs.Keys.{Indexes, Shelves}
+use Rattle.index.specs.TileKeys.{TileNames}
 use Rattle.judge.specs.declared.Plan.{Plan}
 use Rattle.judge.specs.declared.Plan.the-variants.{Plain, Names, Sets, Levels, Steps, Sizes, Ranges}
 
@@ -38,11 +41,11 @@ Prepared Sizes ts w heads = Shelves MatrixName (nth ts 3) (nth ts 6) w heads (le
 Prepared Ranges ts w heads = Indexes Level (nth ts 3) (nth ts 6) w heads (length (nth ts 3) / 64)
 
 -- what the second part holds
-abbrev pub PreparedMore : Plan → List (List ℕ) → List ℕ → ℕ → Type 0
-PreparedMore Plain ts w heads = Unit {0}
-PreparedMore Names ts w heads = Unit {0}
-PreparedMore Sets ts w heads = Unit {0}
-PreparedMore Levels ts w heads = Unit {0}
-PreparedMore Steps ts w heads = Indexes TileName (nth ts 4) (nth ts 6) w heads (length (nth ts 4) / 32)
-PreparedMore Sizes ts w heads = Unit {0}
-PreparedMore Ranges ts w heads = Shelves MatrixName (nth ts 3) (nth ts 6) w heads (length (nth ts 3) / 64)
+abbrev pub PreparedMore : Plan → Form → List (List ℕ) → List ℕ → ℕ → Type 0
+PreparedMore Plain f ts w heads = Unit {0}
+PreparedMore Names f ts w heads = Unit {0}
+PreparedMore Sets f ts w heads = Unit {0}
+PreparedMore Levels f ts w heads = Unit {0}
+PreparedMore Steps f ts w heads = TileNames (tilesIn f ts (nth ts 6)) w heads (tileCount f ts)
+PreparedMore Sizes f ts w heads = Unit {0}
+PreparedMore Ranges f ts w heads = Shelves MatrixName (nth ts 3) (nth ts 6) w heads (length (nth ts 3) / 64)

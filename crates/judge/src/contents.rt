@@ -24,10 +24,11 @@ use listing::SetTable;
 use octets::Name;
 use pack::CONTENTS;
 use pack::ContentsRow;
+use pack::Form;
 use pack::NAMES;
 use pack::REFERENCES;
 use pack::SETS;
-use pack::TABLE_COUNT;
+use pack::SLICE_COUNT;
 use pack::slice_of;
 use rules::Judgment;
 use seek::ContentTest;
@@ -126,7 +127,8 @@ pub fn unless_tiles_name(
 
 // What the rule of a code says of a contents row: 171 nothing, since its finding has no row.
 pub fn judge_contents(
-    tables: [&[u8]; TABLE_COUNT],
+    form: Form,
+    tables: [&[u8]; SLICE_COUNT],
     work: &[u8],
     heads: usize,
     code: u32,
@@ -134,7 +136,7 @@ pub fn judge_contents(
 ) -> Judgment
     requires { ⌜ tableOf code ≡ 2 ⌝ }
     requires { ⌜ Prepared (planOf code) (map now tables) (now work) heads ⌝ }
-    ensures { λ v. ⌜ v ≡ judged (packIn (map now (tables .entry))) code i ⌝ }
+    ensures { λ v. ⌜ v ≡ judged (packIn form (map now (tables .entry))) code i ⌝ }
 {
     let contents = slice_of(tables, CONTENTS);
     let names = slice_of(tables, NAMES);

@@ -13,8 +13,9 @@ use crate::judgments::partner_of;
 use octets::Text;
 use pack::EXTENSIONS;
 use pack::ExtensionRow;
+use pack::Form;
 use pack::NAMES;
-use pack::TABLE_COUNT;
+use pack::SLICE_COUNT;
 use pack::slice_of;
 use rules::Judgment;
 use seek::ExtensionTest;
@@ -77,9 +78,9 @@ pub fn of_641(names: &[u8], e: ExtensionRow) -> Judgment
 }
 
 // What the rule of a code says of an extension row.
-pub fn judge_extension(tables: [&[u8]; TABLE_COUNT], code: u32, i: usize) -> Judgment
+pub fn judge_extension(form: Form, tables: [&[u8]; SLICE_COUNT], code: u32, i: usize) -> Judgment
     requires { ⌜ tableOf code ≡ 6 ⌝ }
-    ensures { λ v. ⌜ v ≡ judged (packIn (map now (tables .entry))) code i ⌝ }
+    ensures { λ v. ⌜ v ≡ judged (packIn form (map now (tables .entry))) code i ⌝ }
 {
     let extensions = slice_of(tables, EXTENSIONS);
     let names = slice_of(tables, NAMES);

@@ -5,9 +5,10 @@ ghost use Rattle.pack.specs.Tables.{packIn};
 ghost use Rattle.rules.specs.Codes.{tableOf, judged, judgedNone};
 ghost use Rattle.judge.specs.Plans.{planOf, Prepared, PreparedMore};
 use pack::CONTENTS;
+use pack::Form;
 use pack::NAMES;
 use pack::REFERENCES;
-use pack::TABLE_COUNT;
+use pack::SLICE_COUNT;
 use pack::slice_of;
 use rules::Judgment;
 
@@ -64,7 +65,8 @@ pub enum Plan {
 
 // What the rule of a code says of row i of the code's table. The lent octets are as the code's plan has them.
 pub fn judge(
-    tables: [&[u8]; TABLE_COUNT],
+    form: Form,
+    tables: [&[u8]; SLICE_COUNT],
     work: &[u8],
     heads: usize,
     more_work: &[u8],
@@ -75,23 +77,23 @@ pub fn judge(
 ) -> Judgment
     requires { ⌜ table ≡ tableOf code ⌝ }
     requires { ⌜ Prepared (planOf code) (map now tables) (now work) heads ⌝ }
-    requires { ⌜ PreparedMore (planOf code) (map now tables) (now «more_work») «more_heads» ⌝ }
-    ensures { λ r. ⌜ r ≡ judged (packIn (map now (tables .entry))) code i ⌝ }
+    requires { ⌜ PreparedMore (planOf code) form (map now tables) (now «more_work») «more_heads» ⌝ }
+    ensures { λ r. ⌜ r ≡ judged (packIn form (map now (tables .entry))) code i ⌝ }
 {
     match table {
-        1 => judge_reference(tables, code, i),
-        2 => judge_contents(tables, work, heads, code, i),
-        3 => judge_set(tables, work, heads, code, i),
-        4 => judge_matrix(tables, work, heads, more_work, more_heads, code, i),
-        5 => judge_tile(tables, work, heads, more_work, more_heads, code, i),
-        6 => judge_extension(tables, code, i),
+        1 => judge_reference(form, tables, code, i),
+        2 => judge_contents(form, tables, work, heads, code, i),
+        3 => judge_set(form, tables, work, heads, code, i),
+        4 => judge_matrix(form, tables, work, heads, more_work, more_heads, code, i),
+        5 => judge_tile(form, tables, work, heads, more_work, more_heads, code, i),
+        6 => judge_extension(form, tables, code, i),
         _ => Judgment::Clean,
     }
 }
 
 // What the rule of a code says without a row.
-pub fn judge_none(tables: [&[u8]; TABLE_COUNT], code: u32) -> Judgment
-    ensures { λ r. ⌜ r ≡ judgedNone (packIn (map now (tables .entry))) code ⌝ }
+pub fn judge_none(form: Form, tables: [&[u8]; SLICE_COUNT], code: u32) -> Judgment
+    ensures { λ r. ⌜ r ≡ judgedNone (packIn form (map now (tables .entry))) code ⌝ }
 {
     let references = slice_of(tables, REFERENCES);
     let names = slice_of(tables, NAMES);

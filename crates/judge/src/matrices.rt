@@ -10,12 +10,13 @@ ghost use Rattle.octets.specs.Numbers.{signed, eqZ};
 ghost use Rattle.octets.specs.Search.{first};
 ghost use Rattle.octets.specs.Texts.{spell};
 ghost use Rattle.doubles.specs.Doubles.{positive};
-ghost use Rattle.pack.specs.Tables.{matrixOf, matricesOf, setsOf, tilesOf, extensionsOf, packIn};
+ghost use Rattle.pack.specs.Tables.{matrixOf, matricesOf, setsOf, tileCount, tilesIn, extensionsOf, packIn};
 ghost use Rattle.rules.specs.Judgments.{faultIf, some};
 ghost use Rattle.rules.specs.Matrices.{atLevel, tileNamed, frees, breaks351, of351, of432, measured, of531};
 ghost use Rattle.rules.specs.Codes.{tableOf, judged};
-ghost use Rattle.index.specs.declared.Kind.the-variants.{TileName, Level, MatrixName, SetName};
+ghost use Rattle.index.specs.declared.Kind.the-variants.{Level, MatrixName, SetName};
 ghost use Rattle.index.specs.Keys.{Indexes, Shelves};
+ghost use Rattle.index.specs.TileKeys.{TileNames};
 ghost use Rattle.judge.specs.Axes.{fitsAlong, ofMeasured};
 ghost use Rattle.judge.specs.Plans.{planOf, Prepared, PreparedMore};
 use crate::Axis;
@@ -29,16 +30,15 @@ use index::Key;
 use listing::ExtensionTable;
 use listing::MatrixTable;
 use listing::SetTable;
-use listing::TileTable;
 use octets::Name;
 use pack::CONTENTS;
 use pack::EXTENSIONS;
+use pack::Form;
 use pack::MATRICES;
 use pack::MatrixRow;
 use pack::NAMES;
 use pack::SETS;
-use pack::TABLE_COUNT;
-use pack::TILES;
+use pack::SLICE_COUNT;
 use pack::slice_of;
 use rules::Judgment;
 use seek::ExtensionTest;
@@ -46,12 +46,19 @@ use seek::MatrixTest;
 
 // ---- 351
 
-fn has_tile(tiles: &[u8], names: &[u8], more_work: &[u8], more_heads: usize, x: Name) -> bool
-    requires { ⌜ Indexes TileName (now tiles) (now names) (now «more_work») «more_heads» (length (now tiles) / 32) ⌝ }
-    ensures { λ r. ⌜ r ≡ some (tileNamed (spell (now (names .entry)) x)) (tilesOf (now (tiles .entry)) (now (names .entry))) ⌝ }
+fn has_tile(
+    form: Form,
+    tables: [&[u8]; SLICE_COUNT],
+    names: &[u8],
+    more_work: &[u8],
+    more_heads: usize,
+    x: Name,
+) -> bool
+    requires { ⌜ TileNames (tilesIn form (map now tables) (now names)) (now «more_work») «more_heads» (tileCount form (map now tables)) ⌝ }
+    ensures { λ r. ⌜ r ≡ some (tileNamed (spell (now (names .entry)) x)) (tilesIn form (map now (tables .entry)) (now (names .entry))) ⌝ }
 {
-    let n = tiles.len() / (TileTable::ROW as usize);
-    index::find(tiles, names, more_work, more_heads, Key::TileName(x)) < n
+    let n = pack::tile_count(form, tables);
+    index::find_name(form, tables, names, more_work, more_heads, x) < n
 }
 
 // An extension row frees the name from the rule.
@@ -87,8 +94,9 @@ pub fn first_step(matrices: &[u8], names: &[u8], work: &[u8], heads: usize, q: M
 
 // Most rows break nothing, so that is asked first.
 pub fn of_351(
+    form: Form,
+    tables: [&[u8]; SLICE_COUNT],
     matrices: &[u8],
-    tiles: &[u8],
     extensions: &[u8],
     names: &[u8],
     work: &[u8],
@@ -98,8 +106,8 @@ pub fn of_351(
     q: MatrixRow,
 ) -> Judgment
     requires { ⌜ Shelves Level (now matrices) (now names) (now work) heads (length (now matrices) / 64) ⌝ }
-    requires { ⌜ Indexes TileName (now tiles) (now names) (now «more_work») «more_heads» (length (now tiles) / 32) ⌝ }
-    ensures { λ r. ⌜ r ≡ of351 (matricesOf (now (matrices .entry)) (now (names .entry))) (tilesOf (now (tiles .entry)) (now (names .entry))) (extensionsOf (now (extensions .entry)) (now (names .entry))) (matrixOf (now (names .entry)) q) ⌝ }
+    requires { ⌜ TileNames (tilesIn form (map now tables) (now names)) (now «more_work») «more_heads» (tileCount form (map now tables)) ⌝ }
+    ensures { λ r. ⌜ r ≡ of351 (matricesOf (now (matrices .entry)) (now (names .entry))) (tilesIn form (map now (tables .entry)) (now (names .entry))) (extensionsOf (now (extensions .entry)) (now (names .entry))) (matrixOf (now (names .entry)) q) ⌝ }
 {
     let n = matrices.len() / (MatrixTable::ROW as usize);
     let k = first_step(matrices, names, work, heads, q);
@@ -109,7 +117,7 @@ pub fn of_351(
     if is_free(extensions, names, q.name) {
         return Judgment::Clean;
     }
-    if has_tile(tiles, names, more_work, more_heads, q.name) {
+    if has_tile(form, tables, names, more_work, more_heads, q.name) {
         return Judgment::Hit(k);
     }
     Judgment::Clean
@@ -224,7 +232,8 @@ pub fn of_531(matrices: &[u8], names: &[u8], work: &[u8], heads: usize, q: Matri
 
 // What the rule of a code says of a matrix.
 pub fn judge_matrix(
-    tables: [&[u8]; TABLE_COUNT],
+    form: Form,
+    tables: [&[u8]; SLICE_COUNT],
     work: &[u8],
     heads: usize,
     more_work: &[u8],
@@ -234,8 +243,8 @@ pub fn judge_matrix(
 ) -> Judgment
     requires { ⌜ tableOf code ≡ 4 ⌝ }
     requires { ⌜ Prepared (planOf code) (map now tables) (now work) heads ⌝ }
-    requires { ⌜ PreparedMore (planOf code) (map now tables) (now «more_work») «more_heads» ⌝ }
-    ensures { λ v. ⌜ v ≡ judged (packIn (map now (tables .entry))) code i ⌝ }
+    requires { ⌜ PreparedMore (planOf code) form (map now tables) (now «more_work») «more_heads» ⌝ }
+    ensures { λ v. ⌜ v ≡ judged (packIn form (map now (tables .entry))) code i ⌝ }
 {
     let sets = slice_of(tables, SETS);
     let matrices = slice_of(tables, MATRICES);
@@ -243,8 +252,9 @@ pub fn judge_matrix(
     let q = pack::matrix_at(matrices, i);
     match code {
         351 => of_351(
+            form,
+            tables,
             matrices,
-            slice_of(tables, TILES),
             slice_of(tables, EXTENSIONS),
             names,
             work,

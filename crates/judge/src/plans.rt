@@ -5,11 +5,11 @@ ghost use Rattle.judge.specs.Plans.{planOf, Prepared, PreparedMore};
 use crate::Plan;
 use index::Kind;
 use pack::CONTENTS;
+use pack::Form;
 use pack::MATRICES;
 use pack::NAMES;
 use pack::SETS;
-use pack::TABLE_COUNT;
-use pack::TILES;
+use pack::SLICE_COUNT;
 use pack::slice_of;
 
 fn plan_of(code: u32) -> Plan
@@ -35,7 +35,7 @@ fn plan_of(code: u32) -> Plan
 }
 
 // Makes the first part ready for a code, and answers how many heads it has.
-pub fn prepare(tables: [&[u8]; TABLE_COUNT], work: &mut [u8], code: u32) -> usize
+pub fn prepare(tables: [&[u8]; SLICE_COUNT], work: &mut [u8], code: u32) -> usize
     ensures { λ heads. ⌜ Prepared (planOf code) (map now (tables .entry)) (now (work .exit)) heads ⌝ }
 {
     let contents = slice_of(tables, CONTENTS);
@@ -55,11 +55,10 @@ pub fn prepare(tables: [&[u8]; TABLE_COUNT], work: &mut [u8], code: u32) -> usiz
 }
 
 // Makes the second part ready, and answers how many heads that one has.
-pub fn prepare_more(tables: [&[u8]; TABLE_COUNT], work: &mut [u8], code: u32) -> usize
-    ensures { λ heads. ⌜ PreparedMore (planOf code) (map now (tables .entry)) (now (work .exit)) heads ⌝ }
+pub fn prepare_more(form: Form, tables: [&[u8]; SLICE_COUNT], work: &mut [u8], code: u32) -> usize
+    ensures { λ heads. ⌜ PreparedMore (planOf code) form (map now (tables .entry)) (now (work .exit)) heads ⌝ }
 {
     let matrices = slice_of(tables, MATRICES);
-    let tiles = slice_of(tables, TILES);
     let names = slice_of(tables, NAMES);
     let plan = plan_of(code);
     match plan {
@@ -67,7 +66,7 @@ pub fn prepare_more(tables: [&[u8]; TABLE_COUNT], work: &mut [u8], code: u32) ->
         Plan::Names => 0,
         Plan::Sets => 0,
         Plan::Levels => 0,
-        Plan::Steps => index::index_all(tiles, names, work, Kind::TileName),
+        Plan::Steps => index::index_names(form, tables, names, work),
         Plan::Sizes => 0,
         Plan::Ranges => index::shelve(matrices, names, work, Kind::MatrixName),
     }

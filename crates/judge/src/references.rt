@@ -11,10 +11,11 @@ use crate::judgments::fault_if;
 use crate::judgments::partner_of;
 use crate::judgments::unless_found;
 use listing::ReferenceTable;
+use pack::Form;
 use pack::NAMES;
 use pack::REFERENCES;
 use pack::ReferenceRow;
-use pack::TABLE_COUNT;
+use pack::SLICE_COUNT;
 use pack::slice_of;
 use rules::Judgment;
 
@@ -84,9 +85,9 @@ pub fn lacks_id(references: &[u8], names: &[u8], id: u64) -> Judgment
 }
 
 // What the rule of a code says of a reference row.
-pub fn judge_reference(tables: [&[u8]; TABLE_COUNT], code: u32, i: usize) -> Judgment
+pub fn judge_reference(form: Form, tables: [&[u8]; SLICE_COUNT], code: u32, i: usize) -> Judgment
     requires { ⌜ tableOf code ≡ 1 ⌝ }
-    ensures { λ v. ⌜ v ≡ judged (packIn (map now (tables .entry))) code i ⌝ }
+    ensures { λ v. ⌜ v ≡ judged (packIn form (map now (tables .entry))) code i ⌝ }
 {
     let references = slice_of(tables, REFERENCES);
     let names = slice_of(tables, NAMES);

@@ -18,11 +18,12 @@ use crate::references::lacks_id;
 use index::Key;
 use octets::Name;
 use pack::CONTENTS;
+use pack::Form;
 use pack::NAMES;
 use pack::REFERENCES;
 use pack::SETS;
+use pack::SLICE_COUNT;
 use pack::SetRow;
-use pack::TABLE_COUNT;
 use pack::slice_of;
 use rules::Judgment;
 
@@ -44,7 +45,8 @@ pub fn of_392(sets: &[u8], names: &[u8], work: &[u8], heads: usize, q: SetRow, i
 
 // What the rule of a code says of a matrix set.
 pub fn judge_set(
-    tables: [&[u8]; TABLE_COUNT],
+    form: Form,
+    tables: [&[u8]; SLICE_COUNT],
     work: &[u8],
     heads: usize,
     code: u32,
@@ -52,7 +54,7 @@ pub fn judge_set(
 ) -> Judgment
     requires { ⌜ tableOf code ≡ 3 ⌝ }
     requires { ⌜ Prepared (planOf code) (map now tables) (now work) heads ⌝ }
-    ensures { λ v. ⌜ v ≡ judged (packIn (map now (tables .entry))) code i ⌝ }
+    ensures { λ v. ⌜ v ≡ judged (packIn form (map now (tables .entry))) code i ⌝ }
 {
     let sets = slice_of(tables, SETS);
     let names = slice_of(tables, NAMES);

@@ -7,7 +7,7 @@ ghost use lib.ListN.{length};
 ghost use Rattle.octets.specs.Numbers.{signed};
 ghost use Rattle.octets.specs.Search.{any};
 ghost use Rattle.octets.specs.Texts.{spell};
-ghost use Rattle.pack.specs.Tables.{matrixOf, matricesOf, tileOf, tilesOf, packIn};
+ghost use Rattle.pack.specs.Tables.{matrixOf, matricesOf, tileOf, tilesIn, packIn};
 ghost use Rattle.rules.specs.Tiles.{of441, of541, of551, offGrid, placed};
 ghost use Rattle.rules.specs.Codes.{tableOf, judged};
 ghost use Rattle.seek.specs.Tests.{matrixPasses};
@@ -25,16 +25,15 @@ use index::Key;
 use listing::MatrixTable;
 use octets::Name;
 use pack::CONTENTS;
+use pack::Form;
 use pack::MATRICES;
 use pack::MatrixRow;
 use pack::NAMES;
-use pack::TABLE_COUNT;
-use pack::TILES;
+use pack::SLICE_COUNT;
 use pack::TileRow;
 use pack::slice_of;
 use rules::Judgment;
 use seek::MatrixTest;
-use seek::TileTest;
 
 pub fn of_441(matrices: &[u8], names: &[u8], work: &[u8], heads: usize, t: TileRow) -> Judgment
     requires { ⌜ Indexes Level (now matrices) (now names) (now work) heads (length (now matrices) / 64) ⌝ }
@@ -44,17 +43,17 @@ pub fn of_441(matrices: &[u8], names: &[u8], work: &[u8], heads: usize, t: TileR
     unless_found(first_level(matrices, names, work, heads, t.name, t.zoom), n)
 }
 
-pub fn of_541(tiles: &[u8], names: &[u8], t: TileRow, i: usize) -> Judgment
-    ensures { λ r. ⌜ r ≡ of541 (tilesOf (now (tiles .entry)) (now (names .entry))) (tileOf (now (names .entry)) t) i ⌝ }
+pub fn of_541(
+    form: Form,
+    tables: [&[u8]; SLICE_COUNT],
+    names: &[u8],
+    t: TileRow,
+    i: usize,
+) -> Judgment
+    ensures { λ r. ⌜ r ≡ of541 (tilesIn form (map now (tables .entry)) (now (names .entry))) (tileOf (now (names .entry)) t) i ⌝ }
 {
-    let name = t.name;
-    let test = TileTest::Address {
-        name,
-        zoom: t.zoom,
-        column: t.column,
-        row: t.row,
-    };
-    partner_of(seek::first_tile(tiles, names, test, i), i)
+    let k = seek::first_at(form, tables, names, t.name, t.zoom, t.column, t.row, i);
+    partner_of(k, i)
 }
 
 // Whether a matrix row passes a test for its name.
@@ -198,7 +197,8 @@ pub fn of_placed(
 
 // What the rule of a code says of a tile.
 pub fn judge_tile(
-    tables: [&[u8]; TABLE_COUNT],
+    form: Form,
+    tables: [&[u8]; SLICE_COUNT],
     work: &[u8],
     heads: usize,
     more_work: &[u8],
@@ -208,17 +208,16 @@ pub fn judge_tile(
 ) -> Judgment
     requires { ⌜ tableOf code ≡ 5 ⌝ }
     requires { ⌜ Prepared (planOf code) (map now tables) (now work) heads ⌝ }
-    requires { ⌜ PreparedMore (planOf code) (map now tables) (now «more_work») «more_heads» ⌝ }
-    ensures { λ v. ⌜ v ≡ judged (packIn (map now (tables .entry))) code i ⌝ }
+    requires { ⌜ PreparedMore (planOf code) form (map now tables) (now «more_work») «more_heads» ⌝ }
+    ensures { λ v. ⌜ v ≡ judged (packIn form (map now (tables .entry))) code i ⌝ }
 {
     let matrices = slice_of(tables, MATRICES);
-    let tiles = slice_of(tables, TILES);
     let names = slice_of(tables, NAMES);
-    let t = pack::tile_at(tiles, i);
+    let t = pack::tile_at(form, tables, i);
     match code {
         341 => unless_tiles_name(slice_of(tables, CONTENTS), names, work, heads, t.name),
         441 => of_441(matrices, names, work, heads, t),
-        541 => of_541(tiles, names, t, i),
+        541 => of_541(form, tables, names, t, i),
         551 => of_551(matrices, names, work, heads, more_work, more_heads, t),
         561 => of_placed(matrices, names, work, heads, Axis::X, t),
         571 => of_placed(matrices, names, work, heads, Axis::Y, t),

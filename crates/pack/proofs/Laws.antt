@@ -1,11 +1,19 @@
--- A row that is there, and one past the last: one pair of laws for all tables. And a number that is no table's.
-use Prim.Native.Nat.{ℕ, zero, suc, _<_, _≤_}
-use mathlib.Core.Path.{_≡_, refl}
+-- A row that is there, and one past the last: one pair of laws for all tables. Entries of columns. And a number that is no table's.
+use Prim.Native.Nat.{ℕ, zero, suc, _+_, _*_, _<_, _≤_}
+use mathlib.Core.Path.{_≡_, refl, subst}
+use mathlib.Core.List.{List}
 use mathlib.Core.Bool.{cond}
+use native.Mathlib.Omega.{arith}
 use borrow.Author.Needs.{needs}
 use borrow.Author.Tests.{lt-ltb, le-ltb}
 use lib.Dec.{ltb}
+use lib.ListN.{length}
+use Rattle.octets.specs.Slices.{nth}
+use Rattle.listing.specs.Listing.{tablesOf}
 use Rattle.pack.specs.Rows.{Pack, rowsIn}
+use Rattle.pack.specs.Tables.{tileCount, tileIn, withTiles, packIn, packOf}
+use Rattle.pack.specs.Columns.{entries, entryCount}
+use Rattle.pack.specs.declared.Form.the-variants as form
 
 module _ {ℓ} {A : Type ℓ} (i n : ℕ) (r x blank : A) where
   pub row-there : i < n → r ≡ x → r ≡ cond (ltb i n) x blank
@@ -14,7 +22,39 @@ module _ {ℓ} {A : Type ℓ} (i n : ℕ) (r x blank : A) where
   pub row-past : n ≤ i → r ≡ blank → r ≡ cond (ltb i n) x blank
   row-past l e = simp (le-ltb i n l) e
 
+  -- by a count that was asked for
+  pub counted-there : (m : ℕ) → m ≡ n → i < m → r ≡ x → r ≡ cond (ltb i n) x blank
+  counted-there m q l e = row-there (subst (λ (k : ℕ). i < k) q l) e
+
+  pub counted-past : (m : ℕ) → m ≡ n → m ≤ i → r ≡ blank → r ≡ cond (ltb i n) x blank
+  counted-past m q l e = row-past (subst (λ (k : ℕ). k ≤ i) q l) e
+
 pub ruleset rows = (row-there, row-past, needs)
+
+pub ruleset counted = (counted-there, counted-past, needs)
+
+-- each of four columns has room for an entry that all have
+module _ (a b c d : List ℕ) (i n : ℕ) where
+  pub room-first : n ≡ entryCount a b c d → i < n → 8 * i + 8 ≤ length a
+  unfolding entryCount entries
+  room-first e l = omega (arith, e, l)
+
+  pub room-second : n ≡ entryCount a b c d → i < n → 8 * i + 8 ≤ length b
+  unfolding entryCount entries
+  room-second e l = omega (arith, e, l)
+
+  pub room-third : n ≡ entryCount a b c d → i < n → 8 * i + 8 ≤ length c
+  unfolding entryCount entries
+  room-third e l = omega (arith, e, l)
+
+  pub room-fourth : n ≡ entryCount a b c d → i < n → 8 * i + 8 ≤ length d
+  unfolding entryCount entries
+  room-fourth e l = omega (arith, e, l)
+
+-- the tables of a listing with its own rows in all places of tiles
+pub cut-rows : (s t : List ℕ) (ts us : List (List ℕ)) → ts ≡ tablesOf s → t ≡ nth ts 4 → us ≡ withTiles ts t t t t → packIn form.Rows us ≡ packOf s
+unfolding packOf withTiles tileCount tileIn nth
+cut-rows s t ts us e f g = simp (g, f, e)
 
 -- a number that is no table's
 pub rows-other : (p : Pack) (t : ℕ) → (t ≡ 1 → ⊥) → (t ≡ 2 → ⊥) → (t ≡ 3 → ⊥) → (t ≡ 4 → ⊥) → (t ≡ 5 → ⊥) → (t ≡ 6 → ⊥) → 0 ≡ rowsIn p t

@@ -1,19 +1,22 @@
 -- The laws of packs. Past its last row a table has one blank, whatever the names; so packs with the same counts and the same rows are equal.
 use Prim.Native.Nat.{ℕ, zero, suc, _/_, _<_, _≤_}
 use mathlib.Core.Path.{_≡_, refl, sym, _∙_, subst, fun-ext}
-use mathlib.Core.List.{List, [], _∷_}
+use mathlib.Core.List.{List, []}
 use mathlib.Core.Bool.{Bool, true, false, cond}
 use native.Mathlib.Omega.{arith}
 use borrow.Author.Tests.{le-ltb, ltb-true, ltb-false}
 use lib.Dec.{ltb, leb}
-use lib.ListN.{length, getD, take, drop}
+use lib.ListN.{length, take, drop}
 use Rattle.octets.specs.Octets.{part}
 use Rattle.octets.specs.Slices.{nth}
 use Rattle.listing.specs.Listing.{row, most, count, table, tablesOf, rows}
 use Rattle.listing.specs.Refusals.{outcome, isAccepted}
 use Rattle.listing.specs.ListingLaws.{count-most, table-rows}
 use Rattle.pack.specs.Rows.{Rows, Pack, rowsIn}
-use Rattle.pack.specs.Tables.{noReference, noContents, noSet, noMatrix, noTile, noExtension, referenceRow, contentsRow, setRow, matrixRow, tileRow, extensionRow, referenceOf, contentOf, setOf, matrixOf, tileOf, extensionOf, referencesOf, contentsOf, setsOf, matricesOf, tilesOf, extensionsOf, packOf}
+use Rattle.pack.specs.Tables.{noReference, noContents, noSet, noMatrix, noTile, noExtension, referenceRow, contentsRow, setRow, matrixRow, tileRow, extensionRow, referenceOf, contentOf, setOf, matrixOf, tileOf, extensionOf, referencesOf, contentsOf, setsOf, matricesOf, entryRow, tileCount, tileIn, tilesIn, extensionsOf, packOf}
+use Rattle.pack.specs.Columns.{entryCount}
+use Rattle.pack.specs.declared.Form.{Form}
+use Rattle.pack.specs.declared.Form.the-variants as form
 
 -- ---- past the last row
 -- past its last row a table has x alone
@@ -45,13 +48,15 @@ module _ (t names : List ℕ) where
   unfolding matrixRow matrixOf
   matrices-past i l = simp (le-ltb i (length t / 64) l, part-none names, part-none [])
 
-  pub tiles-past : Past (tilesOf t names) (tileOf [] noTile)
-  unfolding tileRow tileOf
-  tiles-past i l = simp (le-ltb i (length t / 32) l, part-none names, part-none [])
-
   pub extensions-past : Past (extensionsOf t names) (extensionOf [] noExtension)
   unfolding extensionRow extensionOf
   extensions-past i l = simp (le-ltb i (length t / 32) l)
+
+-- of tiles whatever their form
+pub tiles-past : (f : Form) (ts : List (List ℕ)) (names : List ℕ) → Past (tilesIn f ts names) (tileOf [] noTile)
+unfolding tileCount tileIn tileRow entryRow tileOf
+tiles-past form.Rows ts names i l = simp (le-ltb i (length (nth ts 4) / 32) l, part-none names, part-none [])
+tiles-past form.Columns ts names i l = simp (le-ltb i (entryCount (nth ts 4) (nth ts 7) (nth ts 8) (nth ts 9)) l, part-none names, part-none [])
 
 -- ---- the same rows
 -- two tables have as many rows, and the same ones
@@ -86,7 +91,7 @@ packs-equal s t h = λ k. record {
   contents = rows-equal _ _ _ (contents-past _ _) (contents-past _ _) (h .contents) k;
   sets = rows-equal _ _ _ (sets-past _ _) (sets-past _ _) (h .sets) k;
   matrices = rows-equal _ _ _ (matrices-past _ _) (matrices-past _ _) (h .matrices) k;
-  tiles = rows-equal _ _ _ (tiles-past _ _) (tiles-past _ _) (h .tiles) k;
+  tiles = rows-equal _ _ _ (tiles-past form.Rows _ _) (tiles-past form.Rows _ _) (h .tiles) k;
   extensions = rows-equal _ _ _ (extensions-past _ _) (extensions-past _ _) (h .extensions) k;
 }
 
@@ -94,7 +99,7 @@ packs-equal s t h = λ k. record {
 module _ (s : List ℕ) where
   -- as many as its octets hold
   pub count-rows : (k : ℕ) → 1 ≤ k → k ≤ 6 → rowsIn (packOf s) k ≡ rows k (table s k)
-  unfolding packOf tablesOf nth rows row rowsIn
+  unfolding packOf tablesOf nth rows row rowsIn tileCount
   count-rows zero l h = omega arith
   count-rows (suc zero) l h = refl
   count-rows (suc (suc zero)) l h = refl

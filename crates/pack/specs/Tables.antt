@@ -1,8 +1,8 @@
 -- What the octets of the tables mean: "fields in order". A row is first what the code reads, numbers and places of texts;
--- what that means, with the names, is a row of the pack.
+-- what that means, with the names, is a row of the pack. Tiles may stand in columns as well.
 use Prim.Native.Nat.{ℕ, _+_, _*_, _/_}
-use mathlib.Core.List.{List}
-use mathlib.Core.Bool.{Bool, false, cond}
+use mathlib.Core.List.{List, [], _∷_}
+use mathlib.Core.Bool.{false, cond}
 use lib.Dec.{ltb, eqb}
 use lib.ListN.{length}
 use lib.IntN.{pos}
@@ -16,6 +16,9 @@ use Rattle.octets.specs.declared.Text.the-variants as text
 use Rattle.doubles.specs.declared.Extent.{Extent}
 use Rattle.listing.specs.Listing.{tablesOf}
 use Rattle.pack.specs.Rows.{Rows, Reference, Content, MatrixSet, Matrix, Tile, Extension, Pack}
+use Rattle.pack.specs.Columns.{entryAt, entryCount}
+use Rattle.pack.specs.declared.Form.{Form}
+use Rattle.pack.specs.declared.Form.the-variants as form
 use Rattle.pack.specs.declared.ReferenceRow.{ReferenceRow}
 use Rattle.pack.specs.declared.ContentsRow.{ContentsRow}
 use Rattle.pack.specs.declared.SetRow.{SetRow}
@@ -127,6 +130,24 @@ tileRow t i = cond (ltb i (length t / 32)) (tileAt t (32 * i)) noTile
 unfoldable pub extensionRow : List ℕ → ℕ → ExtensionRow
 extensionRow t i = cond (ltb i (length t / 32)) (extensionAt t (32 * i)) noExtension
 
+-- ---- tile i, wherever tiles stand
+-- entry i of four columns
+unfoldable pub entryRow : List ℕ → List ℕ → List ℕ → List ℕ → ℕ → TileRow
+entryRow firsts zooms columns rows i = cond (ltb i (entryCount firsts zooms columns rows)) (entryAt firsts zooms columns rows (8 * i)) noTile
+
+-- ts are the seven tables; where tiles stand in columns, the first column is in the place of table 5, and the other three follow behind table 7
+unfoldable pub tileCount : Form → List (List ℕ) → ℕ
+tileCount form.Rows ts = length (nth ts 4) / 32
+tileCount form.Columns ts = entryCount (nth ts 4) (nth ts 7) (nth ts 8) (nth ts 9)
+
+unfoldable pub tileIn : Form → List (List ℕ) → ℕ → TileRow
+tileIn form.Rows ts i = tileRow (nth ts 4) i
+tileIn form.Columns ts i = entryRow (nth ts 4) (nth ts 7) (nth ts 8) (nth ts 9) i
+
+-- the tables of a listing, with tiles in four slices
+unfoldable pub withTiles : List (List ℕ) → List ℕ → List ℕ → List ℕ → List ℕ → List (List ℕ)
+withTiles ts a b c d = nth ts 0 ∷ nth ts 1 ∷ nth ts 2 ∷ nth ts 3 ∷ a ∷ nth ts 5 ∷ nth ts 6 ∷ b ∷ c ∷ d ∷ []
+
 -- ---- what a row means, with the octets of the names
 unfoldable pub referenceOf : List ℕ → ReferenceRow → Reference
 referenceOf names r = record {
@@ -183,22 +204,22 @@ setsOf t names = record { count = length t / 48; row = λ i. setOf names (setRow
 abbrev pub matricesOf : List ℕ → List ℕ → Rows Matrix
 matricesOf t names = record { count = length t / 64; row = λ i. matrixOf names (matrixRow t i) }
 
-abbrev pub tilesOf : List ℕ → List ℕ → Rows Tile
-tilesOf t names = record { count = length t / 32; row = λ i. tileOf names (tileRow t i) }
+abbrev pub tilesIn : Form → List (List ℕ) → List ℕ → Rows Tile
+tilesIn f ts names = record { count = tileCount f ts; row = λ i. tileOf names (tileIn f ts i) }
 
 abbrev pub extensionsOf : List ℕ → List ℕ → Rows Extension
 extensionsOf t names = record { count = length t / 32; row = λ i. extensionOf names (extensionRow t i) }
 
--- ---- the pack of seven tables, and that of a listing
-abbrev pub packIn : List (List ℕ) → Pack
-packIn ts = record {
+-- ---- the pack of the tables, and that of a listing
+abbrev pub packIn : Form → List (List ℕ) → Pack
+packIn f ts = record {
   references = referencesOf (nth ts 0) (nth ts 6);
   contents = contentsOf (nth ts 1) (nth ts 6);
   sets = setsOf (nth ts 2) (nth ts 6);
   matrices = matricesOf (nth ts 3) (nth ts 6);
-  tiles = tilesOf (nth ts 4) (nth ts 6);
+  tiles = tilesIn f ts (nth ts 6);
   extensions = extensionsOf (nth ts 5) (nth ts 6);
 }
 
 unfoldable pub packOf : List ℕ → Pack
-packOf s = packIn (tablesOf s)
+packOf s = packIn form.Rows (tablesOf s)

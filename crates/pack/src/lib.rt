@@ -1,16 +1,12 @@
 // The rows of the tables, by value. A number keeps its 64-bit pattern; what a row means is in specs/.
 ghost use mathlib.Core.Path.{_≡_};
-ghost use Rattle.pack.specs.Tables.{referenceRow, contentsRow, setRow, matrixRow, tileRow, extensionRow};
+ghost use Rattle.pack.specs.Tables.{referenceRow, contentsRow, setRow, matrixRow, extensionRow};
 use doubles::Extent;
 use listing::ContentsTable;
 use listing::ExtensionTable;
 use listing::MatrixTable;
 use listing::ReferenceTable;
 use listing::SetTable;
-pub use listing::TABLE_COUNT;
-use listing::TileTable;
-pub use listing::cut;
-pub use listing::slice_of;
 use octets::Name;
 use octets::Text;
 
@@ -18,6 +14,7 @@ mod blank;
 mod read;
 mod tables;
 mod texts;
+mod tiles;
 
 pub use tables::CONTENTS;
 pub use tables::EXTENSIONS;
@@ -25,10 +22,18 @@ pub use tables::MATRICES;
 pub use tables::NAMES;
 pub use tables::REFERENCES;
 pub use tables::SETS;
+pub use tables::SLICE_COUNT;
+pub use tables::TILE_COLUMNS;
+pub use tables::TILE_ROWS;
 pub use tables::TILES;
+pub use tables::cut;
 pub use tables::rows_in;
+pub use tables::slice_of;
+pub use tables::with_tiles;
 pub use texts::same_text;
 pub use texts::text_octets;
+pub use tiles::tile_at;
+pub use tiles::tile_count;
 
 pub struct ReferenceRow {
     pub srs_id: u64,
@@ -76,6 +81,12 @@ pub struct ExtensionRow {
     pub scope: Text,
 }
 
+// Where tiles stand: in the rows of table 5, or in four columns of signed 64-bit numbers.
+pub enum Form {
+    Rows,
+    Columns,
+}
+
 // ---- row i of a table; past the last, a blank
 
 pub fn reference_at(references: &[u8], i: usize) -> ReferenceRow
@@ -115,16 +126,6 @@ pub fn matrix_at(matrices: &[u8], i: usize) -> MatrixRow
         read::matrix_row(matrices, (MatrixTable::ROW as usize) * i)
     } else {
         blank::no_matrix()
-    }
-}
-
-pub fn tile_at(tiles: &[u8], i: usize) -> TileRow
-    ensures { λ r. ⌜ r ≡ tileRow (now (tiles .entry)) i ⌝ }
-{
-    if i < tiles.len() / (TileTable::ROW as usize) {
-        read::tile_row(tiles, (TileTable::ROW as usize) * i)
-    } else {
-        blank::no_tile()
     }
 }
 

@@ -3,6 +3,7 @@ ghost use mathlib.Core.Path.{_≡_};
 ghost use Prim.Native.Nat.{_+_, _≤_};
 ghost use lib.ListN.{length};
 ghost use Rattle.pack.specs.Tables.{doubleAt, referenceAt, contentsAt, extentAt, setAt, matrixAt, tileAt, extensionAt};
+ghost use Rattle.pack.specs.Columns.{nameOf, entryAt};
 use crate::ContentsRow;
 use crate::ExtensionRow;
 use crate::MatrixRow;
@@ -10,6 +11,7 @@ use crate::ReferenceRow;
 use crate::SetRow;
 use crate::TileRow;
 use doubles::Extent;
+use octets::Name;
 
 fn double_at(s: &[u8], at: usize) -> f64
     requires { ⌜ at + 8 ≤ length (now s) ⌝ }
@@ -91,6 +93,32 @@ pub fn tile_row(s: &[u8], at: usize) -> TileRow
         zoom: octets::long(s, at + 8),
         column: octets::long(s, at + 16),
         row: octets::long(s, at + 24),
+    }
+}
+
+// The name that an entry of the first column spells: its start times 2^32, and its length.
+fn name_of(first: u64) -> Name
+    ensures { λ r. ⌜ r ≡ nameOf first ⌝ }
+{
+    Name {
+        start: (first / 4294967296) as u32,
+        len: (first % 4294967296) as u32,
+    }
+}
+
+// The tile whose four numbers stand at one place of four columns.
+pub fn tile_entry(firsts: &[u8], zooms: &[u8], columns: &[u8], rows: &[u8], at: usize) -> TileRow
+    requires { ⌜ at + 8 ≤ length (now firsts) ⌝ }
+    requires { ⌜ at + 8 ≤ length (now zooms) ⌝ }
+    requires { ⌜ at + 8 ≤ length (now columns) ⌝ }
+    requires { ⌜ at + 8 ≤ length (now rows) ⌝ }
+    ensures { λ r. ⌜ r ≡ entryAt (now (firsts .entry)) (now (zooms .entry)) (now (columns .entry)) (now (rows .entry)) at ⌝ }
+{
+    TileRow {
+        name: name_of(octets::long(firsts, at)),
+        zoom: octets::long(zooms, at),
+        column: octets::long(columns, at),
+        row: octets::long(rows, at),
     }
 }
 

@@ -1,33 +1,37 @@
 -- The report's promise from what its parts have done, and that it leaves nothing open.
-use Prim.Native.Nat.{ℕ, zero, suc, _+_, _*_, _/_, _≤_, min}
+use Prim.Native.Nat.{ℕ, _/_, _≤_, min}
 use mathlib.Core.Path.{_≡_, refl, sym, ap, _∙_, subst}
-use mathlib.Core.Bool.{Bool, true, false, cond, true≢false}
-use mathlib.Core.List.{List, [], _∷_, _++_}
+use mathlib.Core.Bool.{true, false, true≢false}
+use mathlib.Core.List.{List, [], _∷_}
 use native.Mathlib.Nat.{zero-add}
 use native.Mathlib.Omega.{arith}
 use lib.ListN.{length}
-use Rattle.listing.specs.Refusals.{outcome, numberOf, tableOf, rowOf, isAccepted}
+use Rattle.listing.specs.Refusals.{outcome, isAccepted}
 use Rattle.listing.specs.declared.Layout.{Layout}
 use Rattle.listing.specs.declared.Outcome.{Outcome}
 use Rattle.listing.specs.declared.Outcome.the-variants.{Accepted, Refused}
-use Rattle.listing.specs.Listing.{tablesOf}
 use Rattle.pack.specs.Rows.{Pack, rowsIn}
 use Rattle.pack.specs.Tables.{packIn, packOf}
 use Rattle.pack.specs.PackLaws.{rows-numbered}
+use Rattle.pack.specs.declared.Form.the-variants as form
+use Rattle.columns.specs.Refusals.{columnOutcome}
+use Rattle.columns.specs.Tiles.{columnTables, columnPack}
+use Rattle.columns.specs.CountLaws.{columns-numbered}
 use Rattle.rules.specs.Codes.{tableOf as tableOfCode}
 use Rattle.rules.specs.Judgments.{none}
 use Rattle.findings.specs.Findings.{Finding, ofCode, findings}
-use Rattle.findings.specs.Answers.{reported, failOr, withoutFinding, ruled, verdictOf, isRefused}
+use Rattle.findings.specs.Answers.{findingsBy, reported, failOr, withoutFinding, ruled, verdictOf, isRefused}
+use Rattle.findings.specs.ColumnAnswers.{columnReported}
 use Rattle.findings.specs.RulingLaws.{kind, ruled-kind, verdict-unlisted as unlisted, verdict-turned, verdict-judged}
 use Rattle.findings.specs.WordLaws.{buffer-none}
 use Rattle.findings.specs.OrderLaws.{Numbered}
-use Rattle.findings.specs.Words.{findingOctets, room, writtenOf, bufferOf}
+use Rattle.findings.specs.Words.{room, writtenOf}
 use Rattle.findings.specs.declared.Ruling.{Ruling}
 use Rattle.findings.specs.declared.Ruling.the-variants.{Pass, Fail, NotTestable}
 use Rattle.findings.specs.declared.Ruling.the-variants as ruling
 use Rattle.report.specs.Buffers.{headRow, Added, noTally}
 use Rattle.report.specs.BufferLaws.{put-all}
-use Rattle.report.specs.Promises.{ReportOf, VerdictOf}
+use Rattle.report.specs.Promises.{ReportBy, ReportOf, ColumnReportOf, VerdictOf}
 use Rattle.report.specs.declared.Summary.{Summary}
 use Rattle.report.specs.declared.Tally.{Tally}
 
@@ -36,36 +40,48 @@ none-written : (b : List ℕ) → 0 ≡ writtenOf [] b
 unfolding writtenOf
 none-written b = omega arith
 
--- a listing that is turned away
-pub report-refused : (s b w : List ℕ) (o : Outcome) (n t r : ℕ) → o ≡ outcome s → o ≡ Refused n t r
-    → ReportOf s b w (record { number = n; table = t; row = r; total = 0; written = 0 }) b w
-unfolding reported
-report-refused s b w o n t r e f =
-    let q : outcome s ≡ Refused n t r = sym e ∙ f in
+-- what is turned away
+pub report-refused : (b w : List ℕ) (o : Outcome) (fs : List Finding) (n t r : ℕ) → o ≡ Refused n t r
+    → ReportBy o (findingsBy o fs) b w (record { number = n; table = t; row = r; total = 0; written = 0 }) b w
+report-refused b w o fs n t r q =
     record { number = rw q; table = rw q; row = rw q; total = rw q; written = rw q (none-written b); buffer = rw q (sym (buffer-none b)); kept = λ _. refl }
 
--- one that is judged
-pub report-done : (s b w : List ℕ) (o : Outcome) (l : Layout) (p : Pack) (b′ w′ : List ℕ) (t : Tally) (n : ℕ) → o ≡ outcome s → o ≡ Accepted l → p ≡ packOf s
-    → Added (findings p) b noTally b′ t → length b′ ≡ length b → n ≡ min (t .total) (length b′ / 4 / 3)
-    → ReportOf s b w (record { number = 0; table = 0; row = 0; total = t .total; written = n }) b′ w′
-unfolding reported writtenOf
-report-done s b w o l p b′ w′ t n e f g a k h =
-    let q : outcome s ≡ Accepted l = sym e ∙ f in
-    let c : t .total ≡ length (findings (packOf s)) = a .count ∙ zero-add (length (findings p)) ∙ ap (λ (x : Pack). length (findings x)) g in
-    let v : n ≡ min (length (findings (packOf s))) (room b) = rw (h, c, k) in
+-- what is judged
+pub report-done : (b w : List ℕ) (o : Outcome) (l : Layout) (fs : List Finding) (b′ w′ : List ℕ) (t : Tally) (n : ℕ) → o ≡ Accepted l
+    → Added fs b noTally b′ t → length b′ ≡ length b → n ≡ min (t .total) (length b′ / 4 / 3)
+    → ReportBy o (findingsBy o fs) b w (record { number = 0; table = 0; row = 0; total = t .total; written = n }) b′ w′
+unfolding writtenOf
+report-done b w o l fs b′ w′ t n q a k h =
+    let c : t .total ≡ length fs = a .count ∙ zero-add (length fs) in
+    let v : n ≡ min (length fs) (room b) = rw (h, c, k) in
     record {
       number = rw q;
       table = rw q;
       row = rw q;
       total = rw q c;
       written = rw q v;
-      buffer = rw q (a .buffer ∙ put-all (findings p) b ∙ ap (λ (x : Pack). bufferOf (findings x) b) g);
+      buffer = rw q (a .buffer ∙ put-all fs b);
       kept = λ z. absurd (true≢false (sym (ap isAccepted q) ∙ z));
     }
 
+pub accepted-numbered : (o : Outcome) (l : Layout) (p : Pack) → (isAccepted o ≡ true → Numbered p) → o ≡ Accepted l → Numbered p
+accepted-numbered o l p h e = h (ap isAccepted e)
+
+-- as it is told of a listing, and of one with columns
+module _ (s b w : List ℕ) (o : Outcome) (p : Pack) (r : Summary) (b′ w′ : List ℕ) where
+  pub report-listing : o ≡ outcome s → p ≡ packOf s → ReportBy o (findingsBy o (findings p)) b w r b′ w′ → ReportOf s b w r b′ w′
+  unfolding reported
+  report-listing e q h = subst (λ (x : Outcome). ReportBy x (findingsBy x (findings (packOf s))) b w r b′ w′) e (subst (λ (x : Pack). ReportBy o (findingsBy o (findings x)) b w r b′ w′) q h)
+
+  pub report-columns : (cs ts : List (List ℕ)) → p ≡ packIn form.Columns ts → o ≡ columnOutcome s cs → ts ≡ columnTables s cs → ReportBy o (findingsBy o (findings p)) b w r b′ w′ → ColumnReportOf s cs b w r b′ w′
+  unfolding columnReported columnPack
+  report-columns cs ts d e q h =
+      subst (λ (x : Outcome). ReportBy x (findingsBy x (findings (columnPack s cs))) b w r b′ w′) e
+      (subst (λ (x : Pack). ReportBy o (findingsBy o (findings x)) b w r b′ w′) (d ∙ ap (packIn form.Columns) q) h)
+
 -- two answers that keep the promise are the same, and so are the buffers
-pub report-one : (s b w : List ℕ) (r₁ r₂ : Summary) (b₁ b₂ w₁ w₂ : List ℕ) → ReportOf s b w r₁ b₁ w₁ → ReportOf s b w r₂ b₂ w₂ → (r₁ ≡ r₂) × (b₁ ≡ b₂)
-report-one s b w r₁ r₂ b₁ b₂ w₁ w₂ p q =
+pub report-one : (o : Outcome) (fs : List Finding) (b w : List ℕ) (r₁ r₂ : Summary) (b₁ b₂ w₁ w₂ : List ℕ) → ReportBy o fs b w r₁ b₁ w₁ → ReportBy o fs b w r₂ b₂ w₂ → (r₁ ≡ r₂) × (b₁ ≡ b₂)
+report-one o fs b w r₁ r₂ b₁ b₂ w₁ w₂ p q =
     let n : r₁ .number ≡ r₂ .number = p .number ∙ sym (q .number) in
     let t : r₁ .table ≡ r₂ .table = p .table ∙ sym (q .table) in
     let i : r₁ .row ≡ r₂ .row = p .row ∙ sym (q .row) in
@@ -97,19 +113,21 @@ module _ (p : Pack) (c t : ℕ) (e : t ≡ tableOfCode c) (b b′ : List ℕ) (k
       f ∙ ap (withoutFinding c) q ∙ tally-none (ofCode p c t) (withoutFinding c (rowsIn p t)) (sym (a .count ∙ zero-add (length (ofCode p c t))) ∙ z) ∙ at-table
 
 -- ---- a listing cut into its tables
-module _ (s : List ℕ) (ts : List (List ℕ)) (e : ts ≡ tablesOf s) where
-  pub cut-pack : packIn ts ≡ packOf s
-  unfolding packOf
-  cut-pack = ap packIn e
+module _ (s : List ℕ) (ts : List (List ℕ)) (e : packIn form.Rows ts ≡ packOf s) where
+  pub cut-numbered : isAccepted (outcome s) ≡ true → Numbered (packIn form.Rows ts)
+  cut-numbered a = subst Numbered (sym e) (rows-numbered s a)
 
-  pub cut-numbered : isAccepted (outcome s) ≡ true → Numbered (packIn ts)
-  cut-numbered a = subst Numbered (sym cut-pack) (rows-numbered s a)
+  -- by what was told of it
+  pub cut-accepted : (o : Outcome) → o ≡ outcome s → isAccepted o ≡ true → Numbered (packIn form.Rows ts)
+  cut-accepted o q a = cut-numbered (ap isAccepted (sym q) ∙ a)
 
-  pub cut-ruled : (c : ℕ) (v : Ruling) → v ≡ ruled (packIn ts) c → v ≡ ruled (packOf s) c
-  cut-ruled c v q = q ∙ ap (λ (p : Pack). ruled p c) cut-pack
+  pub cut-ruled : (c : ℕ) (v : Ruling) → v ≡ ruled (packIn form.Rows ts) c → v ≡ ruled (packOf s) c
+  cut-ruled c v q = q ∙ ap (λ (p : Pack). ruled p c) e
 
-  pub cut-added : (b b′ : List ℕ) (t t′ : Tally) → Added (findings (packIn ts)) b t b′ t′ → Added (findings (packOf s)) b t b′ t′
-  cut-added b b′ t t′ a = subst (λ (p : Pack). Added (findings p) b t b′ t′) cut-pack a
+-- and with its tiles in columns
+pub columns-accepted : (s : List ℕ) (cs ts : List (List ℕ)) (o : Outcome) → ts ≡ columnTables s cs → o ≡ columnOutcome s cs → isAccepted o ≡ true → Numbered (packIn form.Columns ts)
+unfolding columnPack
+columns-accepted s cs ts o e q a = subst (λ (us : List (List ℕ)). Numbered (packIn form.Columns us)) (sym e) (columns-numbered s cs (ap isAccepted (sym q) ∙ a))
 
 pub accepted-by : (s : List ℕ) (o : Outcome) (l : Layout) → o ≡ outcome s → o ≡ Accepted l → isAccepted (outcome s) ≡ true
 accepted-by s o l e f = ap isAccepted (sym e ∙ f)

@@ -10,10 +10,8 @@ use lib.ListN.{length, length-append}
 use Rattle.octets.specs.Gather.{gather}
 use Rattle.octets.specs.GatherLaws.{gather-one, gather-agree}
 use Rattle.octets.specs.Search.{first}
-use Rattle.pack.specs.Rows.{Pack, rowsIn}
-use Rattle.pack.specs.Tables.{tilesOf}
-use Rattle.index.specs.declared.Kind.the-variants.{Address}
-use Rattle.index.specs.Keys.{keyOf, answers}
+use Rattle.pack.specs.Rows.{Rows, Tile, Pack, rowsIn}
+use Rattle.index.specs.TileKeys.{addressAt, isAt}
 use Rattle.rules.specs.Judgments.{partner}
 use Rattle.rules.specs.Tiles.{of541}
 use Rattle.rules.specs.Codes.{judged}
@@ -72,12 +70,12 @@ unfolding atRow
 more-row p code b t n i b₁ b₂ t₁ t₂ v w l a d e = walk-more (atRow p code) b t n code i b₁ b₂ t₁ t₂ v w l a d (ap (found code i) e)
 
 -- by what the index found
-pub more-541 : (b : List ℕ) (t : Tally) (n i : ℕ) (b₁ b₂ : List ℕ) (t₁ t₂ : Tally) (v : Judgment) (k : ℕ) (tiles names : List ℕ)
-    → Walking (at541 (tilesOf tiles names)) b t n i b₁ t₁ → i < n → Added (found 541 i v) b₁ t₁ b₂ t₂ → length b₂ ≡ length b₁ → v ≡ partner k i
-    → k ≡ first (answers Address tiles names (keyOf Address tiles names i)) i → Walking (at541 (tilesOf tiles names)) b t n (i + 1) b₂ t₂
+pub more-541 : (b : List ℕ) (t : Tally) (n i : ℕ) (b₁ b₂ : List ℕ) (t₁ t₂ : Tally) (v : Judgment) (k : ℕ) (ts : Rows Tile)
+    → Walking (at541 ts) b t n i b₁ t₁ → i < n → Added (found 541 i v) b₁ t₁ b₂ t₂ → length b₂ ≡ length b₁ → v ≡ partner k i
+    → k ≡ first (isAt ts (addressAt ts i)) i → Walking (at541 ts) b t n (i + 1) b₂ t₂
 unfolding at541 of541
-more-541 b t n i b₁ b₂ t₁ t₂ v k tiles names w l a d e f =
-    walk-more (at541 (tilesOf tiles names)) b t n 541 i b₁ b₂ t₁ t₂ v w l a d (ap (found 541 i) (e ∙ ap (λ (r : ℕ). partner r i) f))
+more-541 b t n i b₁ b₂ t₁ t₂ v k ts w l a d e f =
+    walk-more (at541 ts) b t n 541 i b₁ b₂ t₁ t₂ v w l a d (ap (found 541 i) (e ∙ ap (λ (r : ℕ). partner r i) f))
 
 -- the walk of 541 over the tiles is that of the rule
 pub as-541 : (p : Pack) (n code : ℕ) (b b′ : List ℕ) (t t′ : Tally) → code ≡ 541 → Added (gather n (at541 (p .tiles))) b t b′ t′ → Added (gather n (atRow p code)) b t b′ t′

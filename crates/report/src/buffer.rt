@@ -1,6 +1,6 @@
 // Findings put into the caller's buffer, one by one.
 ghost use mathlib.Core.Path.{_≡_};
-ghost use Prim.Native.Nat.{_+_, _<_, _^_, min};
+ghost use Prim.Native.Nat.{_+_, _<_, _^_};
 ghost use Rattle.findings.specs.Findings.{found};
 ghost use Rattle.report.specs.Buffers.{findingOf, putOne, Added};
 use crate::Tally;
@@ -35,10 +35,4 @@ pub fn add(out: &mut [u8], t: Tally, code: u32, row: usize, v: Judgment) -> Tall
         total: total + 1,
         row: t.row,
     }
-}
-
-pub fn least(a: usize, b: usize) -> usize
-    ensures { λ r. ⌜ r ≡ min a b ⌝ }
-{
-    if a < b { a } else { b }
 }

@@ -11,8 +11,10 @@ pub use answers::put_located;
 pub use answers::put_refusal;
 pub use answers::put_ruling;
 pub use full::report;
+pub use full::report_columns;
 pub use rulings::verdict;
 pub use search::lookup;
+pub use search::lookup_columns;
 
 // How many findings there are so far, and the row of the first.
 pub struct Tally {

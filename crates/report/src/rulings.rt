@@ -11,7 +11,8 @@ ghost use Rattle.report.specs.Promises.{VerdictOf};
 use crate::Tally;
 use crate::walk::add_code;
 use findings::Ruling;
-use pack::TABLE_COUNT;
+use pack::Form;
+use pack::SLICE_COUNT;
 use rules::CODE_COUNT;
 use rules::NONE;
 
@@ -59,10 +60,10 @@ fn without_finding(code: u32, n: usize) -> Ruling
 }
 
 // The ruling of a listed code: the row of its first finding, or none.
-fn rule(tables: [&[u8]; TABLE_COUNT], work: &mut [u8], code: u32, table: u32) -> Ruling
-    requires { ⌜ Numbered (packIn (map now tables)) ⌝ }
+fn rule(form: Form, tables: [&[u8]; SLICE_COUNT], work: &mut [u8], code: u32, table: u32) -> Ruling
+    requires { ⌜ Numbered (packIn form (map now tables)) ⌝ }
     requires { ⌜ table ≡ tableOf code ⌝ }
-    ensures { λ r. ⌜ r ≡ ruled (packIn (map now (tables .entry))) code ⌝ }
+    ensures { λ r. ⌜ r ≡ ruled (packIn form (map now (tables .entry))) code ⌝ }
 {
     // No finding is kept: the tally has what a verdict needs.
     let mut kept = [0u8; 1];
@@ -71,6 +72,7 @@ fn rule(tables: [&[u8]; TABLE_COUNT], work: &mut [u8], code: u32, table: u32) ->
         row: NONE,
     };
     let t = add_code(
+        form,
         tables,
         &mut kept,
         work,
@@ -82,7 +84,7 @@ fn rule(tables: [&[u8]; TABLE_COUNT], work: &mut [u8], code: u32, table: u32) ->
     if t.total != 0 {
         return Ruling::Fail(t.row);
     }
-    without_finding(code, pack::rows_in(tables, table))
+    without_finding(code, pack::rows_in(form, tables, table))
 }
 
 fn rule_listing(listing: &[u8], work: &mut [u8], code: u32, table: u32) -> Ruling
@@ -90,7 +92,7 @@ fn rule_listing(listing: &[u8], work: &mut [u8], code: u32, table: u32) -> Rulin
     requires { ⌜ table ≡ tableOf code ⌝ }
     ensures { λ r. ⌜ r ≡ ruled (packOf (now (listing .entry))) code ⌝ }
 {
-    rule(pack::cut(listing), work, code, table)
+    rule(Form::Rows, pack::cut(listing), work, code, table)
 }
 
 // Pass, fail with the first row, not testable; or a refusal: 9 before the reader's.

@@ -3,11 +3,9 @@ ghost use mathlib.Core.Path.{_≡_};
 ghost use mathlib.Core.List.{map};
 ghost use Prim.Native.Nat.{_+_, _<_, _≤_, _^_};
 ghost use lib.ListN.{length, take, drop};
-ghost use mathlib.Core.Bool.{true};
 ghost use Rattle.octets.specs.Gather.{gather};
-ghost use Rattle.listing.specs.Refusals.{outcome, isAccepted};
 ghost use Rattle.pack.specs.Rows.{rowsIn};
-ghost use Rattle.pack.specs.Tables.{packIn, packOf};
+ghost use Rattle.pack.specs.Tables.{packIn};
 ghost use Rattle.rules.specs.Codes.{tableOf};
 ghost use Rattle.judge.specs.Plans.{planOf, Prepared, PreparedMore};
 ghost use Rattle.survey.specs.Surveys.{Surveyed};
@@ -16,11 +14,10 @@ ghost use Rattle.findings.specs.OrderLaws.{Numbered};
 ghost use Rattle.report.specs.Buffers.{Added, noTally};
 use crate::Tally;
 use crate::buffer::add;
-use crate::buffer::least;
 use crate::tiles::add_541;
+use pack::Form;
 use pack::NAMES;
-use pack::TABLE_COUNT;
-use pack::TILES;
+use pack::SLICE_COUNT;
 use pack::slice_of;
 use rules::CODE_COUNT;
 use rules::NONE;
@@ -31,7 +28,8 @@ const FIRST_PART: usize = 65536;
 
 // The findings of the first n rows of a code's table. The lent octets are as the code's plan has them.
 fn add_rows(
-    tables: [&[u8]; TABLE_COUNT],
+    form: Form,
+    tables: [&[u8]; SLICE_COUNT],
     work: &[u8],
     heads: usize,
     more_work: &[u8],
@@ -44,15 +42,25 @@ fn add_rows(
 ) -> Tally
     requires { ⌜ table ≡ tableOf code ⌝ }
     requires { ⌜ Prepared (planOf code) (map now tables) (now work) heads ⌝ }
-    requires { ⌜ PreparedMore (planOf code) (map now tables) (now «more_work») «more_heads» ⌝ }
+    requires { ⌜ PreparedMore (planOf code) form (map now tables) (now «more_work») «more_heads» ⌝ }
     requires { ⌜ t .total + n < 2 ^ 64 ⌝ }
-    ensures { λ r. ⌜ Added (gather n (atRow (packIn (map now (tables .entry))) code)) (now (out .entry)) t (now (out .exit)) r ⌝ }
+    ensures { λ r. ⌜ Added (gather n (atRow (packIn form (map now (tables .entry))) code)) (now (out .entry)) t (now (out .exit)) r ⌝ }
 {
     let mut tally = t;
     let mut i = 0;
     while i < n {
         let next = i + 1;
-        let v = judge::judge(tables, work, heads, more_work, more_heads, code, table, i);
+        let v = judge::judge(
+            form,
+            tables,
+            work,
+            heads,
+            more_work,
+            more_heads,
+            code,
+            table,
+            i,
+        );
         tally = add(out, tally, code, i, v);
         i = next;
     }
@@ -61,7 +69,8 @@ fn add_rows(
 
 // The lent octets are two parts, the first of which ends at the split.
 fn add_by_parts(
-    tables: [&[u8]; TABLE_COUNT],
+    form: Form,
+    tables: [&[u8]; SLICE_COUNT],
     work: &[u8],
     split: usize,
     heads: usize,
@@ -75,11 +84,12 @@ fn add_by_parts(
     requires { ⌜ split ≤ length (now work) ⌝ }
     requires { ⌜ table ≡ tableOf code ⌝ }
     requires { ⌜ Prepared (planOf code) (map now tables) (take split (now work)) heads ⌝ }
-    requires { ⌜ PreparedMore (planOf code) (map now tables) (drop split (now work)) «more_heads» ⌝ }
+    requires { ⌜ PreparedMore (planOf code) form (map now tables) (drop split (now work)) «more_heads» ⌝ }
     requires { ⌜ t .total + n < 2 ^ 64 ⌝ }
-    ensures { λ r. ⌜ Added (gather n (atRow (packIn (map now (tables .entry))) code)) (now (out .entry)) t (now (out .exit)) r ⌝ }
+    ensures { λ r. ⌜ Added (gather n (atRow (packIn form (map now (tables .entry))) code)) (now (out .entry)) t (now (out .exit)) r ⌝ }
 {
     add_rows(
+        form,
         tables,
         &work[0..split],
         heads,
@@ -95,7 +105,8 @@ fn add_by_parts(
 
 // Makes the two parts ready for the code.
 fn add_by_plan(
-    tables: [&[u8]; TABLE_COUNT],
+    form: Form,
+    tables: [&[u8]; SLICE_COUNT],
     out: &mut [u8],
     work: &mut [u8],
     t: Tally,
@@ -105,12 +116,13 @@ fn add_by_plan(
 ) -> Tally
     requires { ⌜ table ≡ tableOf code ⌝ }
     requires { ⌜ t .total + n < 2 ^ 64 ⌝ }
-    ensures { λ r. ⌜ Added (gather n (atRow (packIn (map now (tables .entry))) code)) (now (out .entry)) t (now (out .exit)) r ⌝ }
+    ensures { λ r. ⌜ Added (gather n (atRow (packIn form (map now (tables .entry))) code)) (now (out .entry)) t (now (out .exit)) r ⌝ }
 {
-    let split = least(work.len(), FIRST_PART);
+    let split = octets::least(work.len(), FIRST_PART);
     let heads = judge::prepare(tables, &mut work[0..split], code);
-    let more_heads = judge::prepare_more(tables, &mut work[split..], code);
+    let more_heads = judge::prepare_more(form, tables, &mut work[split..], code);
     add_by_parts(
+        form,
         tables,
         work,
         split,
@@ -126,7 +138,8 @@ fn add_by_plan(
 
 // The findings of a code's rows, of which its table has n.
 fn add_table_rows(
-    tables: [&[u8]; TABLE_COUNT],
+    form: Form,
+    tables: [&[u8]; SLICE_COUNT],
     out: &mut [u8],
     work: &mut [u8],
     s: Survey,
@@ -135,32 +148,27 @@ fn add_table_rows(
     table: u32,
     n: usize,
 ) -> Tally
-    requires { ⌜ Surveyed (packIn (map now tables)) s ⌝ }
+    requires { ⌜ Surveyed (packIn form (map now tables)) s ⌝ }
     requires { ⌜ table ≡ tableOf code ⌝ }
-    requires { ⌜ n ≡ rowsIn (packIn (map now tables)) table ⌝ }
+    requires { ⌜ n ≡ rowsIn (packIn form (map now tables)) table ⌝ }
     requires { ⌜ t .total + n < 2 ^ 64 ⌝ }
-    ensures { λ r. ⌜ Added (gather n (atRow (packIn (map now (tables .entry))) code)) (now (out .entry)) t (now (out .exit)) r ⌝ }
+    ensures { λ r. ⌜ Added (gather n (atRow (packIn form (map now (tables .entry))) code)) (now (out .entry)) t (now (out .exit)) r ⌝ }
 {
     if survey::is_quiet(s, code, table) {
         return t;
     }
     if code == 541 {
         if table == 5 {
-            return add_541(
-                slice_of(tables, TILES),
-                slice_of(tables, NAMES),
-                out,
-                work,
-                t,
-            );
+            return add_541(form, tables, slice_of(tables, NAMES), out, work, t);
         }
     }
-    add_by_plan(tables, out, work, t, code, table, n)
+    add_by_plan(form, tables, out, work, t, code, table, n)
 }
 
 // The findings of a code: its table's rows, then the one without a row.
 pub fn add_code(
-    tables: [&[u8]; TABLE_COUNT],
+    form: Form,
+    tables: [&[u8]; SLICE_COUNT],
     out: &mut [u8],
     work: &mut [u8],
     s: Survey,
@@ -168,24 +176,24 @@ pub fn add_code(
     code: u32,
     table: u32,
 ) -> Tally
-    requires { ⌜ Surveyed (packIn (map now tables)) s ⌝ }
-    requires { ⌜ Numbered (packIn (map now tables)) ⌝ }
+    requires { ⌜ Surveyed (packIn form (map now tables)) s ⌝ }
+    requires { ⌜ Numbered (packIn form (map now tables)) ⌝ }
     requires { ⌜ table ≡ tableOf code ⌝ }
     requires { ⌜ t .total < 2 ^ 63 ⌝ }
-    ensures { λ r. ⌜ Added (ofCode (packIn (map now (tables .entry))) code table) (now (out .entry)) t (now (out .exit)) r ⌝ }
+    ensures { λ r. ⌜ Added (ofCode (packIn form (map now (tables .entry))) code table) (now (out .entry)) t (now (out .exit)) r ⌝ }
 {
-    let n = pack::rows_in(tables, table);
-    let tally = add_table_rows(tables, out, work, s, t, code, table, n);
-    let v = judge::judge_none(tables, code);
+    let n = pack::rows_in(form, tables, table);
+    let tally = add_table_rows(form, tables, out, work, s, t, code, table, n);
+    let v = judge::judge_none(form, tables, code);
     add(out, tally, code, NONE, v)
 }
 
 // The findings of every code.
-pub fn add_all(tables: [&[u8]; TABLE_COUNT], out: &mut [u8], work: &mut [u8]) -> Tally
-    requires { ⌜ Numbered (packIn (map now tables)) ⌝ }
-    ensures { λ r. ⌜ Added (findings (packIn (map now (tables .entry)))) (now (out .entry)) noTally (now (out .exit)) r ⌝ }
+pub fn add_all(form: Form, tables: [&[u8]; SLICE_COUNT], out: &mut [u8], work: &mut [u8]) -> Tally
+    requires { ⌜ Numbered (packIn form (map now tables)) ⌝ }
+    ensures { λ r. ⌜ Added (findings (packIn form (map now (tables .entry)))) (now (out .entry)) noTally (now (out .exit)) r ⌝ }
 {
-    let s = survey::look(tables, work);
+    let s = survey::look(form, tables, work);
     let mut tally = Tally {
         total: 0,
         row: NONE,
@@ -193,6 +201,7 @@ pub fn add_all(tables: [&[u8]; TABLE_COUNT], out: &mut [u8], work: &mut [u8]) ->
     let mut k = 0;
     while k < CODE_COUNT {
         tally = add_code(
+            form,
             tables,
             out,
             work,
@@ -204,12 +213,4 @@ pub fn add_all(tables: [&[u8]; TABLE_COUNT], out: &mut [u8], work: &mut [u8]) ->
         k += 1;
     }
     tally
-}
-
-// The findings of a listing.
-pub fn add_listing(listing: &[u8], out: &mut [u8], work: &mut [u8]) -> Tally
-    requires { ⌜ isAccepted (outcome (now listing)) ≡ true ⌝ }
-    ensures { λ r. ⌜ Added (findings (packOf (now (listing .entry)))) (now (out .entry)) noTally (now (out .exit)) r ⌝ }
-{
-    add_all(pack::cut(listing), out, work)
 }

@@ -4,11 +4,11 @@ use mathlib.Core.List.{List}
 use mathlib.Core.Bool.{Bool}
 use Rattle.octets.specs.Numbers.{signed}
 use Rattle.octets.specs.Texts.{spell}
-use Rattle.pack.specs.Rows.{Content, MatrixSet, Matrix, Tile, Extension}
+use Rattle.pack.specs.Rows.{Content, MatrixSet, Matrix, Extension}
 use Rattle.pack.specs.Tables.{contentOf, matrixOf, tileOf, extensionOf}
 use Rattle.rules.specs.Contents.{contentNamed, givesTiles, isMap, setNamed, breaks162}
-use Rattle.rules.specs.Matrices.{matrixNamed, atLevel, tileNamed, frees, breaks351, breaks531}
-use Rattle.rules.specs.Tiles.{atAddress, atMost, atLeast}
+use Rattle.rules.specs.Matrices.{matrixNamed, atLevel, frees, breaks351, breaks531}
+use Rattle.rules.specs.Tiles.{atMost, atLeast}
 use Rattle.rules.specs.Extensions.{equals622}
 use Rattle.seek.specs.declared.ContentTest.{ContentTest}
 use Rattle.seek.specs.declared.ContentTest.the-variants as content
@@ -16,8 +16,6 @@ use Rattle.seek.specs.declared.SetTest.{SetTest}
 use Rattle.seek.specs.declared.SetTest.the-variants as set
 use Rattle.seek.specs.declared.MatrixTest.{MatrixTest}
 use Rattle.seek.specs.declared.MatrixTest.the-variants as matrix
-use Rattle.seek.specs.declared.TileTest.{TileTest}
-use Rattle.seek.specs.declared.TileTest.the-variants as tile
 use Rattle.seek.specs.declared.ExtensionTest.{ExtensionTest}
 use Rattle.seek.specs.declared.ExtensionTest.the-variants as extension
 
@@ -37,10 +35,6 @@ matrixPasses names (matrix.AtMost t) q = atMost (tileOf names t) q
 matrixPasses names (matrix.AtLeast t) q = atLeast (tileOf names t) q
 matrixPasses names (matrix.Breaks351 m) q = breaks351 (matrixOf names m) q
 matrixPasses names (matrix.Breaks531 m) q = breaks531 (matrixOf names m) q
-
-abbrev pub tilePasses : List ℕ → TileTest → Tile → Bool
-tilePasses names (tile.Named x) q = tileNamed (spell names x) q
-tilePasses names (tile.Address x z c r) q = atAddress (spell names x) (signed z) (signed c) (signed r) q
 
 abbrev pub extensionPasses : List ℕ → ExtensionTest → Extension → Bool
 extensionPasses names (extension.Frees x) q = frees (spell names x) q

@@ -9,6 +9,7 @@ mod contents;
 mod extensions;
 mod matrices;
 mod references;
+mod scan;
 mod sets;
 mod tiles;
 
@@ -27,8 +28,9 @@ pub use sets::breaks_162;
 pub use sets::first_set;
 pub use sets::set_passes;
 pub use tiles::at_address;
-pub use tiles::first_tile;
-pub use tiles::tile_passes;
+pub use tiles::first_at;
+pub use tiles::first_of_name;
+pub use tiles::tile_named;
 
 // What a rule asks of a contents row.
 pub enum ContentTest {
@@ -51,17 +53,6 @@ pub enum MatrixTest {
     AtLeast(TileRow),
     Breaks351(MatrixRow),
     Breaks531(MatrixRow),
-}
-
-// Of a tile row.
-pub enum TileTest {
-    Named(Name),
-    Address {
-        name: Name,
-        zoom: u64,
-        column: u64,
-        row: u64,
-    },
 }
 
 // Of an extension row.

@@ -1,18 +1,20 @@
-// Tile rows: what the rules ask of one, and the search for the lowest that passes. Numbers are asked before names.
+// Tiles, wherever they stand: what the rules ask of one, and the search for the lowest that fits. Numbers are asked before names.
 ghost use mathlib.Core.Path.{_≡_};
+ghost use mathlib.Core.List.{map};
 ghost use Rattle.octets.specs.Search.{first};
 ghost use Rattle.octets.specs.Texts.{spell};
 ghost use Rattle.octets.specs.Numbers.{signed};
-ghost use Rattle.pack.specs.Tables.{tileOf, tilesOf};
+ghost use Rattle.pack.specs.Tables.{tileOf, tilesIn};
 ghost use Rattle.rules.specs.Matrices.{tileNamed};
 ghost use Rattle.rules.specs.Tiles.{atAddress};
-ghost use Rattle.seek.specs.Tests.{tilePasses};
-use crate::TileTest;
+use crate::scan::skip_to_place;
 use listing::Cursor;
 use octets::Name;
+use pack::Form;
+use pack::SLICE_COUNT;
 use pack::TileRow;
 
-fn tile_named(names: &[u8], x: Name, q: TileRow) -> bool
+pub fn tile_named(names: &[u8], x: Name, q: TileRow) -> bool
     ensures { λ r. ⌜ r ≡ tileNamed (spell (now (names .entry)) x) (tileOf (now (names .entry)) q) ⌝ }
 {
     octets::same_name(names, x, q.name)
@@ -31,30 +33,45 @@ pub fn at_address(names: &[u8], x: Name, zoom: u64, column: u64, row: u64, q: Ti
     false
 }
 
-pub fn tile_passes(names: &[u8], test: TileTest, q: TileRow) -> bool
-    ensures { λ r. ⌜ r ≡ tilePasses (now (names .entry)) test (tileOf (now (names .entry)) q) ⌝ }
-{
-    match test {
-        TileTest::Named(x) => tile_named(names, x, q),
-        TileTest::Address {
-            name,
-            zoom,
-            column,
-            row,
-        } => at_address(names, name, zoom, column, row, q),
-    }
-}
-
-// The lowest of the first n tile rows that passes, or n.
-pub fn first_tile(tiles: &[u8], names: &[u8], test: TileTest, n: usize) -> usize
-    ensures { λ r. ⌜ r ≡ first (λ j. tilePasses (now (names .entry)) test (tilesOf (now (tiles .entry)) (now (names .entry)) .row j)) n ⌝ }
+// The lowest of the first n tiles with a name, or n.
+pub fn first_of_name(
+    form: Form,
+    tables: [&[u8]; SLICE_COUNT],
+    names: &[u8],
+    x: Name,
+    n: usize,
+) -> usize
+    ensures { λ r. ⌜ r ≡ first (λ j. tileNamed (spell (now (names .entry)) x) (tilesIn form (map now (tables .entry)) (now (names .entry)) .row j)) n ⌝ }
 {
     let mut at = Cursor::new(n);
     while at.row < at.end {
-        if tile_passes(names, test, pack::tile_at(tiles, at.row)) {
+        if tile_named(names, x, pack::tile_at(form, tables, at.row)) {
             return at.row;
         }
         at = at.next();
     }
     at.end
+}
+
+// The lowest of the first n tiles at an address, or n. Most tiles are passed by column and row alone.
+pub fn first_at(
+    form: Form,
+    tables: [&[u8]; SLICE_COUNT],
+    names: &[u8],
+    x: Name,
+    zoom: u64,
+    column: u64,
+    row: u64,
+    n: usize,
+) -> usize
+    ensures { λ r. ⌜ r ≡ first (λ j. atAddress (spell (now (names .entry)) x) (signed zoom) (signed column) (signed row) (tilesIn form (map now (tables .entry)) (now (names .entry)) .row j)) n ⌝ }
+{
+    let mut i = skip_to_place(form, tables, column, row, 0, n);
+    while i < n {
+        if at_address(names, x, zoom, column, row, pack::tile_at(form, tables, i)) {
+            return i;
+        }
+        i = skip_to_place(form, tables, column, row, i + 1, n);
+    }
+    n
 }

@@ -4,7 +4,7 @@ use mathlib.Core.Path.{_≡_, refl, sym, ap, _∙_}
 use mathlib.Core.List.{List}
 use mathlib.Core.Bool.{Bool, cond, not}
 use mathlib.Core.Logic.{⊎-elim}
-use native.Mathlib.Nat.{le-antisymm, eq-or-lt-of-le}
+use native.Mathlib.Nat.{eq-or-lt-of-le}
 use native.Mathlib.Numerals.{add-one-le}
 use native.Mathlib.Omega.{arith}
 use lib.Dec.{ltb}
@@ -14,7 +14,8 @@ use Rattle.octets.specs.Search.{first, any}
 use Rattle.octets.specs.Texts.{spell}
 use Rattle.pack.specs.declared.MatrixRow.{MatrixRow}
 use Rattle.pack.specs.declared.TileRow.{TileRow}
-use Rattle.pack.specs.Tables.{matrixRow, tileRow, matrixOf, tileOf, contentsOf, matricesOf, tilesOf}
+use Rattle.pack.specs.Tables.{matrixRow, tileIn, matrixOf, tileOf, contentsOf, matricesOf, tilesIn}
+use Rattle.pack.specs.declared.Form.{Form}
 use Rattle.rules.specs.Judgments.{none, partner, faultIf}
 use Rattle.rules.specs.Contents.{isTilesName}
 use Rattle.rules.specs.Matrices.{atLevel, breaks351, of431}
@@ -67,23 +68,23 @@ module _ (t names : List ℕ) (n i seen after : ℕ) (v : Judgment) (q : MatrixR
       look-more (namedAt (contentsOf cs names) (matricesOf t names)) n i seen after v l b e
       (f ∙ ap (λ (x : MatrixRow). faultIf (not (isTilesName (contentsOf cs names) (spell names (x .name))))) r)
 
-module _ (ms t names : List ℕ) (n i seen after : ℕ) (v : Judgment) (a : TileRow) (r : a ≡ tileRow t i) (k : ℕ)
+module _ (g : Form) (ts : List (List ℕ)) (ms names : List ℕ) (n i seen after : ℕ) (v : Judgment) (a : TileRow) (r : a ≡ tileIn g ts i) (k : ℕ)
     (f : k ≡ first (λ j. atLevel (spell names (a .name)) (signed (a .zoom)) (matricesOf ms names .row j)) (length ms / 64)) where
   -- the first matrix row of a row's level
   abbrev firstLevel : TileRow → ℕ
   firstLevel x = first (λ j. atLevel (spell names (x .name)) (signed (x .zoom)) (matricesOf ms names .row j)) (length ms / 64)
 
-  pub more-level : (m : ℕ) → Looking (levelAt (matricesOf ms names) (tilesOf t names)) n i seen → i < n → after ≡ seenAfter seen v → m ≡ length ms / 64
-      → v ≡ cond (ltb k m) Clean (Hit none) → Looking (levelAt (matricesOf ms names) (tilesOf t names)) n (i + 1) after
+  pub more-level : (m : ℕ) → Looking (levelAt (matricesOf ms names) (tilesIn g ts names)) n i seen → i < n → after ≡ seenAfter seen v → m ≡ length ms / 64
+      → v ≡ cond (ltb k m) Clean (Hit none) → Looking (levelAt (matricesOf ms names) (tilesIn g ts names)) n (i + 1) after
   unfolding levelAt of441 any tileOf
-  more-level m l b e s g =
-      look-more (levelAt (matricesOf ms names) (tilesOf t names)) n i seen after v l b e
-      (g ∙ ap (λ (j : ℕ). cond (ltb j m) Clean (Hit none)) f ∙ ap (λ (j : ℕ). cond (ltb (firstLevel a) j) Clean (Hit none)) s
+  more-level m l b e s w =
+      look-more (levelAt (matricesOf ms names) (tilesIn g ts names)) n i seen after v l b e
+      (w ∙ ap (λ (j : ℕ). cond (ltb j m) Clean (Hit none)) f ∙ ap (λ (j : ℕ). cond (ltb (firstLevel a) j) Clean (Hit none)) s
       ∙ ap (λ (x : TileRow). cond (ltb (firstLevel x) (length ms / 64)) Clean (Hit none)) r)
 
-  pub more-placed : (off : Tile → Matrix → Bool) → Looking (placedAt off (matricesOf ms names) (tilesOf t names)) n i seen → i < n → after ≡ seenAfter seen v
-      → v ≡ placed off (matricesOf ms names) (tileOf names a) k → Looking (placedAt off (matricesOf ms names) (tilesOf t names)) n (i + 1) after
+  pub more-placed : (off : Tile → Matrix → Bool) → Looking (placedAt off (matricesOf ms names) (tilesIn g ts names)) n i seen → i < n → after ≡ seenAfter seen v
+      → v ≡ placed off (matricesOf ms names) (tileOf names a) k → Looking (placedAt off (matricesOf ms names) (tilesIn g ts names)) n (i + 1) after
   unfolding placedAt tileOf
-  more-placed off l b e g =
-      look-more (placedAt off (matricesOf ms names) (tilesOf t names)) n i seen after v l b e
-      (g ∙ ap (placed off (matricesOf ms names) (tileOf names a)) f ∙ ap (λ (x : TileRow). placed off (matricesOf ms names) (tileOf names x) (firstLevel x)) r)
+  more-placed off l b e w =
+      look-more (placedAt off (matricesOf ms names) (tilesIn g ts names)) n i seen after v l b e
+      (w ∙ ap (placed off (matricesOf ms names) (tileOf names a)) f ∙ ap (λ (x : TileRow). placed off (matricesOf ms names) (tileOf names x) (firstLevel x)) r)

@@ -4,18 +4,17 @@ ghost use mathlib.Core.List.{map};
 ghost use Prim.Native.Nat.{_/_};
 ghost use lib.ListN.{length};
 ghost use Rattle.pack.specs.Rows.{Pack};
-ghost use Rattle.pack.specs.Tables.{contentsOf, matricesOf, tilesOf, packIn};
+ghost use Rattle.pack.specs.Tables.{contentsOf, matricesOf, tileCount, tilesIn, packIn};
 ghost use Rattle.rules.specs.Tiles.{off561, off571};
 ghost use Rattle.survey.specs.Surveys.{seenAfter, stepAt, namedAt, levelAt, placedAt, Quiet, Surveyed, quietTile, quietMatrix, quietBy};
 use index::Kind;
 use judge::Axis;
 use listing::MatrixTable;
-use listing::TileTable;
 use pack::CONTENTS;
+use pack::Form;
 use pack::MATRICES;
 use pack::NAMES;
-use pack::TABLE_COUNT;
-use pack::TILES;
+use pack::SLICE_COUNT;
 use pack::slice_of;
 use rules::Judgment;
 
@@ -79,12 +78,18 @@ fn see_names(contents: &[u8], matrices: &[u8], names: &[u8], work: &mut [u8]) ->
     seen
 }
 
-fn see_tiles(matrices: &[u8], tiles: &[u8], names: &[u8], work: &mut [u8]) -> Places
-    ensures { λ r. ⌜ Quiet (levelAt (matricesOf (now (matrices .entry)) (now (names .entry))) (tilesOf (now (tiles .entry)) (now (names .entry)))) (length (now (tiles .entry)) / 32) (r .levels) ⌝ }
-    ensures { λ r. ⌜ Quiet (placedAt off561 (matricesOf (now (matrices .entry)) (now (names .entry))) (tilesOf (now (tiles .entry)) (now (names .entry)))) (length (now (tiles .entry)) / 32) (r .columns) ⌝ }
-    ensures { λ r. ⌜ Quiet (placedAt off571 (matricesOf (now (matrices .entry)) (now (names .entry))) (tilesOf (now (tiles .entry)) (now (names .entry)))) (length (now (tiles .entry)) / 32) (r .rows) ⌝ }
+fn see_tiles(
+    form: Form,
+    tables: [&[u8]; SLICE_COUNT],
+    matrices: &[u8],
+    names: &[u8],
+    work: &mut [u8],
+) -> Places
+    ensures { λ r. ⌜ Quiet (levelAt (matricesOf (now (matrices .entry)) (now (names .entry))) (tilesIn form (map now (tables .entry)) (now (names .entry)))) (tileCount form (map now (tables .entry))) (r .levels) ⌝ }
+    ensures { λ r. ⌜ Quiet (placedAt off561 (matricesOf (now (matrices .entry)) (now (names .entry))) (tilesIn form (map now (tables .entry)) (now (names .entry)))) (tileCount form (map now (tables .entry))) (r .columns) ⌝ }
+    ensures { λ r. ⌜ Quiet (placedAt off571 (matricesOf (now (matrices .entry)) (now (names .entry))) (tilesIn form (map now (tables .entry)) (now (names .entry)))) (tileCount form (map now (tables .entry))) (r .rows) ⌝ }
 {
-    let n = tiles.len() / (TileTable::ROW as usize);
+    let n = pack::tile_count(form, tables);
     let heads = index::index_all(matrices, names, work, Kind::Level);
     let mut levels = 0;
     let mut columns = 0;
@@ -92,7 +97,7 @@ fn see_tiles(matrices: &[u8], tiles: &[u8], names: &[u8], work: &mut [u8]) -> Pl
     let mut i = 0;
     while i < n {
         let next = i + 1;
-        let t = pack::tile_at(tiles, i);
+        let t = pack::tile_at(form, tables, i);
         let k = index::find_level(matrices, names, work, heads, t.name, t.zoom);
         let u = judge::unless_found(k, matrices.len() / (MatrixTable::ROW as usize));
         let v = judge::placed(matrices, names, Axis::X, t, k);
@@ -110,16 +115,15 @@ fn see_tiles(matrices: &[u8], tiles: &[u8], names: &[u8], work: &mut [u8]) -> Pl
 }
 
 // Looks over the pack.
-pub fn look(tables: [&[u8]; TABLE_COUNT], work: &mut [u8]) -> Survey
-    ensures { λ r. ⌜ Surveyed (packIn (map now (tables .entry))) r ⌝ }
+pub fn look(form: Form, tables: [&[u8]; SLICE_COUNT], work: &mut [u8]) -> Survey
+    ensures { λ r. ⌜ Surveyed (packIn form (map now (tables .entry))) r ⌝ }
 {
     let contents = slice_of(tables, CONTENTS);
     let matrices = slice_of(tables, MATRICES);
-    let tiles = slice_of(tables, TILES);
     let names = slice_of(tables, NAMES);
     let steps = see_steps(matrices, names, work);
     let named = see_names(contents, matrices, names, work);
-    let places = see_tiles(matrices, tiles, names, work);
+    let places = see_tiles(form, tables, matrices, names, work);
     Survey {
         steps,
         names: named,

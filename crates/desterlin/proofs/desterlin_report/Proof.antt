@@ -10,8 +10,6 @@ desterlin-report-spec =
     (tie.spec (λ c. search (report-short, needs))
     (λ c κs. search needs)
     (λ c κs. search needs)
-    (λ c κs. search needs)
-    (λ c κs. search needs)
     (λ c. search needs)
     (λ c. search needs)
     (λ c. search needs)

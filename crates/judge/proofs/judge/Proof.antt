@@ -22,4 +22,4 @@ judge-spec =
     (λ c. search needs)
     (λ c. search needs)
     (λ c. search needs)
-    (λ c. let st = c .before .before .before in no-table (packIn (map now (st .args .tables))) _ _ _ (st .pre .0) (c .match .rest)))
+    (λ c. let st = c .before .before .before in no-table (packIn (st .args .form) (map now (st .args .tables))) _ _ _ (st .pre .0) (c .match .rest)))

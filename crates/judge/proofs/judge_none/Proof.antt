@@ -23,4 +23,4 @@ judge-none-spec =
     (λ c. let r = c .before .before in simp (c .before .match .keys2, ← r .slice-of2 .ensures, ← r .before .slice-of .ensures) (c .lacks-id2 .ensures))
     (λ c. let r = c .before .before in simp (c .before .match .keys3, ← r .slice-of2 .ensures, ← r .before .slice-of .ensures) (c .lacks-id3 .ensures))
     (λ c. let r = c .before .before .before in simp (c .before .before .match .keys4, ← c .before .slice-of3 .ensures, ← r .slice-of2 .ensures) (c .none-171 .ensures))
-    (λ c. no-none-code (packIn (map now (c .before .before .before .args .tables))) _ (c .match .rest)))
+    (λ c. let a = c .before .before .before .args in no-none-code (packIn (a .form) (map now (a .tables))) _ (c .match .rest)))

@@ -9,7 +9,6 @@ prepare-more-spec =
     (tie.spec (λ c κs. search needs)
     (λ c κs. search needs)
     (λ c κs. search needs)
-    (λ c κs. search needs)
     (λ c. search needs)
     (λ c. search needs)
     (λ c. search needs)
@@ -28,11 +27,11 @@ prepare-more-spec =
     let made = c .before .before in
     let told = made .before .before in
     let plan = told .before .before in
-    rw (← plan .plan-of .ensures, told .enum-told5 .given .1, ← plan .before .slice-of3 .ensures, ← plan .before .before .slice-of2 .ensures) (made .index-all .ensures .1))
+    rw (← plan .plan-of .ensures, told .enum-told5 .given .1, ← plan .before .slice-of2 .ensures) (made .index-names .ensures))
     (λ c. rw (← c .before .before .plan-of .ensures, c .enum-told6 .given .1) tt)
     (λ c. search needs)
     (λ c.
     let made = c .before .before in
     let told = made .before .before in
     let plan = told .before .before in
-    rw (← plan .plan-of .ensures, told .enum-told7 .given .1, ← plan .before .slice-of3 .ensures, ← plan .before .before .before .slice-of .ensures) (made .shelve .ensures)))
+    rw (← plan .plan-of .ensures, told .enum-told7 .given .1, ← plan .before .slice-of2 .ensures, ← plan .before .before .slice-of .ensures) (made .shelve .ensures)))

@@ -11,4 +11,4 @@ of-541-spec =
     tie.close
     (tie.spec (λ c κs. search needs)
     (λ c κs. search needs)
-    (λ c. simp (← c .before .first-tile .ensures) (c .partner-of .ensures)))
+    (λ c. simp (← c .before .first-at .ensures) (c .partner-of .ensures)))

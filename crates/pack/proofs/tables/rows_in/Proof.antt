@@ -25,8 +25,6 @@ rows-in-spec =
     (λ c. search needs)
     (λ c. search needs)
     (λ c κs. search needs)
-    (λ c. search needs)
-    (λ c. search needs)
     (λ c κs. search needs)
     (λ c. search needs)
     (λ c. search needs)
@@ -34,9 +32,9 @@ rows-in-spec =
     (λ c. rw (c .before .match .keys2, c .slice-of2 .ensures))
     (λ c. rw (c .before .match .keys3, c .slice-of3 .ensures))
     (λ c. rw (c .before .match .keys4, c .slice-of4 .ensures))
-    (λ c. rw (c .before .match .keys5, c .slice-of5 .ensures))
-    (λ c. rw (c .before .match .keys6, c .slice-of6 .ensures))
+    (λ c. rw (c .before .match .keys5) (c .tile-count .ensures))
+    (λ c. rw (c .before .match .keys6, c .slice-of5 .ensures))
     (λ c.
     let a = c .before .args in
     let r = c .match .rest in
-    rows-other (packIn (map now (a .tables))) (a .table) (r .0 .0 .0 .0 .0 .1) (r .0 .0 .0 .0 .1) (r .0 .0 .0 .1) (r .0 .0 .1) (r .0 .1) (r .1)))
+    rows-other (packIn (a .form) (map now (a .tables))) (a .table) (r .0 .0 .0 .0 .0 .1) (r .0 .0 .0 .0 .1) (r .0 .0 .0 .1) (r .0 .0 .1) (r .0 .1) (r .1)))

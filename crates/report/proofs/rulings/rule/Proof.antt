@@ -13,7 +13,7 @@ rule-spec =
     tie.close
     (tie.spec (λ c. search needs)
     (λ c κs. search needs)
-    (λ c κs. let st = c .before .before .before .before in (c .unknown .ensures (packIn (map now (st .args .tables))), (st .pre .0, (st .pre .1, omega arith))))
+    (λ c κs. let st = c .before .before .before .before in (c .unknown .ensures (packIn (st .args .form) (map now (st .args .tables))), (st .pre .0, (st .pre .1, omega arith))))
     (λ c. search needs)
     (λ c. search (rule-fail, needs))
     (λ c κs. search needs)

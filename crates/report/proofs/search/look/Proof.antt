@@ -16,11 +16,10 @@ look-spec =
     (λ c κs. search needs)
     (λ c κs. search needs)
     (λ c κs. search needs)
-    (λ c κs. search needs)
     (λ c.
-    let asked = c .before .before .before .before in
-    rw (← asked .before .before .slice-of .ensures, ← asked .before .slice-of2 .ensures, ← c .before .slice-of3 .ensures)
-    (when-yes _ _ _ _ _ (asked .can-look .ensures) (c .before .before .before .if1 .taken) (rw (c .before .before .contents-at .ensures) at (c .tile-of .ensures))))
+    let asked = c .before .before .before in
+    rw (← asked .before .before .slice-of .ensures, ← asked .before .slice-of2 .ensures)
+    (when-yes _ _ _ _ _ (asked .can-look .ensures) (c .before .before .if1 .taken) (rw (c .before .contents-at .ensures) at (c .tile-of .ensures))))
     (λ c.
     let asked = c .before in
     rw (← asked .before .before .slice-of .ensures, ← asked .before .slice-of2 .ensures) (when-no _ _ _ _ _ (asked .can-look .ensures) (c .if1 .left) refl)))

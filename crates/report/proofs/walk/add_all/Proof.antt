@@ -19,11 +19,11 @@ use Rattle.report.proofs.walk.add_all.Statement.{statement}
 use Rattle.report.proofs.walk.add_all.Tie as tie
 
 abbrev Inv-loop : tie.InvT-loop
-Inv-loop tables out₀ work₀ s tally₀ k₀ out work tally k =
-    (k ≤ codeCount) × Added (gather k (ofPlace (packIn (map now tables)))) out₀ noTally out tally × (length out ≡ length out₀) × (length work ≡ length work₀)
+Inv-loop form tables out₀ work₀ s tally₀ k₀ out work tally k =
+    (k ≤ codeCount) × Added (gather k (ofPlace (packIn form (map now tables)))) out₀ noTally out tally × (length out ≡ length out₀) × (length work ≡ length work₀)
 
 abbrev μ-loop : tie.MeasureT-loop
-μ-loop tables out₀ work₀ s tally₀ k₀ out work tally k = codeCount - k
+μ-loop form tables out₀ work₀ s tally₀ k₀ out work tally k = codeCount - k
 
 pub add-all-spec : {M : Type 1} → statement M
 unfolding ofPlace findings
@@ -45,7 +45,7 @@ add-all-spec =
         st .pre,
         (
           c .table-at .ensures ∙ sym (place-table k (omega arith)) ∙ ap tableOf (sym (c .before .code-at .ensures)),
-          omega (arith, l .loop .inv .1 .count, places-length (packIn (map now (st .args .tables))) none k (st .pre)),
+          omega (arith, l .loop .inv .1 .count, places-length (packIn (st .args .form) (map now (st .args .tables))) none k (st .pre)),
         ),
       ),
     ))
@@ -56,12 +56,12 @@ add-all-spec =
     let l = r .before .before .before .before .before .before in
     let a = l .before .before .before .before .before .before .before .args in (
       search needs,
-      added-more (l .loop .k) (ofPlace (packIn (map now (a .tables)))) (l .loop .inv .1) (rw (r .before .before .code-at .ensures, r .before .table-at .ensures) at (r .add-code .ensures)),
-      r .add-code .kept .1 .0 ∙ l .loop .inv .2,
-      r .add-code .kept .1 .1 .0 ∙ l .loop .inv .3,
+      added-more (l .loop .k) (ofPlace (packIn (a .form) (map now (a .tables)))) (l .loop .inv .1) (rw (r .before .before .code-at .ensures, r .before .table-at .ensures) at (r .add-code .ensures)),
+      r .add-code .kept .1 .1 .0 ∙ l .loop .inv .2,
+      r .add-code .kept .1 .1 .1 .0 ∙ l .loop .inv .3,
     ))
     (λ c. search needs)
-    (λ c. c .before .loop .inv .3 ∙ c .before .before .before .before .look .kept .1 .0)
+    (λ c. c .before .loop .inv .3 ∙ c .before .before .before .before .look .kept .1 .1 .0)
     (λ c.
     let l = c .before in
     let e : l .loop .k ≡ codeCount = omega arith in

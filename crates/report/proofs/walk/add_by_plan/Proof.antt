@@ -30,7 +30,7 @@ add-by-plan-spec =
     let a = st .args in
     let ts = map now (a .tables) in
     let p = first .prepare .last .1 .0 in
-    let q = second .prepare-more .last .1 .0 in
+    let q = second .prepare-more .last .1 .1 .0 in
     let e = first .prepare .kept .1 .0 in
     let l : part .result ≤ length (a .work .now) = omega (arith, part .ensures) in (
       parts-within (part .result) (a .work .now) p q l e,
@@ -38,7 +38,7 @@ add-by-plan-spec =
         st .pre .0,
         (
           parts-first (part .result) (a .work .now) p q l e (λ w. Prepared (planOf (a .code)) ts w (first .prepare .result)) (first .prepare .ensures),
-          (parts-second (part .result) (a .work .now) p q l e (λ w. PreparedMore (planOf (a .code)) ts w (second .prepare-more .result)) (second .prepare-more .ensures), st .pre .1),
+          (parts-second (part .result) (a .work .now) p q l e (λ w. PreparedMore (planOf (a .code)) (a .form) ts w (second .prepare-more .result)) (second .prepare-more .ensures), st .pre .1),
         ),
       ),
     ))

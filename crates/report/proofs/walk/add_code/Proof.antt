@@ -27,7 +27,7 @@ add-code-spec =
     let st = r .before .before .before in
     let a = st .args in
     let pre = st .pre .1 in
-    omega (arith, q .add-table-rows .ensures .count, rows-length (packIn (map now (a .tables))) (a .code) (r .rows-in .result), r .rows-in .ensures, pre .0 (a .table), pre .1 .1))
+    omega (arith, q .add-table-rows .ensures .count, rows-length (packIn (a .form) (map now (a .tables))) (a .code) (r .rows-in .result), r .rows-in .ensures, pre .0 (a .table), pre .1 .1))
     (λ c. search needs)
     (λ c. search needs)
     (λ c.

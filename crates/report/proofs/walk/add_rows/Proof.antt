@@ -10,11 +10,11 @@ use Rattle.report.proofs.walk.add_rows.Statement.{statement}
 use Rattle.report.proofs.walk.add_rows.Tie as tie
 
 abbrev Inv-loop : tie.InvT-loop
-Inv-loop tables work heads moreWork moreHeads out₀ code table n tally₀ i₀ out tally i =
-    Walking (atRow (packIn (map now tables)) code) out₀ tally₀ n i out tally
+Inv-loop form tables work heads moreWork moreHeads out₀ code table n tally₀ i₀ out tally i =
+    Walking (atRow (packIn form (map now tables)) code) out₀ tally₀ n i out tally
 
 abbrev μ-loop : tie.MeasureT-loop
-μ-loop tables work heads moreWork moreHeads out₀ code table n tally₀ i₀ out tally i = n - i
+μ-loop form tables work heads moreWork moreHeads out₀ code table n tally₀ i₀ out tally i = n - i
 
 pub add-rows-spec : {M : Type 1} → statement M
 add-rows-spec =

@@ -16,27 +16,26 @@ add-table-rows-spec =
     (λ c.
     let st = c .before .before .before .before in
     let a = st .args in
-    quiet-added (packIn (map now (a .tables))) (a .s) (a .code) (a .table) (a .n) _ _ _ (st .pre .0) (st .pre .1 .1 .0) (c .before .is-quiet .ensures) (c .if1 .taken))
-    (λ c κs. search needs)
+    quiet-added (packIn (a .form) (map now (a .tables))) (a .s) (a .code) (a .table) (a .n) _ _ _ (st .pre .0) (st .pre .1 .1 .0) (c .before .is-quiet .ensures) (c .if1 .taken))
     (λ c κs. search needs)
     (λ c κs.
     let names = c .before .before in
-    let five = names .before .before in
+    let five = names .before in
     let st = five .before .before .before .before .before .before in
     let a = st .args in
-    rw (names .before .slice-of .ensures) (tile-room (packIn (map now (a .tables))) (a .table) (a .n) (five .if3 .taken) (st .pre .1 .1 .0) (a .t .total) (st .pre .1 .1 .1)))
+    (tile-room (packIn (a .form) (map now (a .tables))) (a .table) (a .n) (five .if3 .taken) (st .pre .1 .1 .0) (a .t .total) (st .pre .1 .1 .1)))
     (λ c. search needs)
     (λ c. search needs)
     (λ c.
     let added = c .before .before .before .before in
     let names = added .before .before .before in
-    let five = names .before .before in
+    let five = names .before in
     let st = five .before .before .before .before .before .before in
     let a = st .args in
-    let p = packIn (map now (a .tables)) in
+    let p = packIn (a .form) (map now (a .tables)) in
     as-541 p (a .n) (a .code) _ _ _ _ (five .before .if2 .taken)
     (tile-added p (a .table) (a .n) (five .if3 .taken) (st .pre .1 .1 .0) (at541 (p .tiles)) _ _ _ _
-    (rw (names .before .slice-of .ensures, names .slice-of2 .ensures) at (added .add-541 .ensures))))
+    (rw (names .slice-of .ensures) at (added .add-541 .ensures))))
     (λ c κs. search needs)
     (λ c. search needs)
     (λ c. search needs)

@@ -1,0 +1,26 @@
+-- Entries of the first column as the code meets them: those that spell a text of ASCII octets are passed eight at a time, and others whose text is clear one by one.
+use Prim.Native.Nat.{ℕ, _+_, _*_, _/_, _%_, _≤_}
+use mathlib.Core.Path.{_≡_}
+use mathlib.Core.List.{List}
+use mathlib.Core.Bool.{Bool, false}
+use lib.Dec.{ltb}
+use Rattle.octets.specs.Octets.{le64}
+use Rattle.octets.specs.SearchLaws.{Seeking}
+use Rattle.utf8.specs.MarkLaws.{Clear}
+
+-- where the text of a number ends
+abbrev pub endOf : ℕ → ℕ
+endOf v = v / 4294967296 + v % 4294967296
+
+-- the text of entry i ends past some ASCII octets with which the names begin
+unfoldable pub isPast : List ℕ → ℕ → ℕ → Bool
+isPast c plain i = ltb plain (endOf (le64 c (8 * i)))
+
+-- the text of entry i is clear
+abbrev pub ClearEntry : List ℕ → List ℕ → ℕ → Type 0
+ClearEntry names c i = Clear names (le64 c (8 * i) / 4294967296) (le64 c (8 * i) % 4294967296)
+
+-- every entry from start up to r has a clear text: whatever no such entry has, a search has not met on the way
+pub record Cleared (names c : List ℕ) (start n r : ℕ) : Type 0 where
+  pub low : start ≤ r
+  pub on : (p : ℕ → Bool) → ((i : ℕ) → ClearEntry names c i → p i ≡ false) → Seeking p start n → Seeking p r n

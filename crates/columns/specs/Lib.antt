@@ -1,0 +1,10 @@
+pub mod Refusals
+pub mod Entries
+pub mod EntryLaws
+pub mod Tiles
+pub mod FillLaws
+pub mod ColumnRefusalLaws
+pub mod SpelledLaws
+pub mod FilledLaws
+pub mod PastLaws
+pub mod CountLaws

@@ -1,0 +1,16 @@
+-- `seek::scan::two` meets its contract.
+use native.Mathlib.Omega.{arith}
+use Rattle.octets.specs.Counts.{ofTwo}
+use borrow.Author.Needs.{needs}
+use Rattle.seek.proofs.scan.two.Statement.{statement}
+use Rattle.seek.proofs.scan.two.Tie as tie
+
+pub two-spec : {M : Type 1} → statement M
+unfolding ofTwo
+two-spec =
+    tie.close
+    (tie.spec (λ c κs. search needs)
+    (λ c. search needs)
+    (λ c κs. search needs)
+    (λ c. search needs)
+    (λ c. (omega (arith, c .before .one .ensures, c .one2 .ensures), omega (arith, c .before .one .ensures, c .one2 .ensures))))
