@@ -1,10 +1,12 @@
 /*
  * What a viewer does with a listing before it draws: refuse it or report what is wrong with it, ask for the verdict on
- * doubled addresses, then look up the tiles of a screen.
+ * doubled addresses, then fill columns with its tiles, once, and look up the tiles of a screen in them.
  *
  *     viewer LISTING [CONTENTS-ROW ZOOM FIRST-COLUMN LAST-COLUMN FIRST-ROW LAST-ROW]
  *
  * Exit status: 0 no findings, 1 findings, 2 refused, not readable or called wrongly.
+ *
+ * The columns are arrays of int64_t, so this is for a little-endian machine.
  */
 #include <errno.h>
 #include <inttypes.h>
@@ -21,6 +23,12 @@ struct lent {
     size_t listing_size;
     uint8_t *work;
     size_t work_size;
+};
+
+/* The tiles of a listing, in columns of so many octets each. */
+struct tiles {
+    int64_t *firsts, *zooms, *columns, *rows;
+    size_t size;
 };
 
 /* The columns and rows that the screen shows, ends included. */
@@ -59,6 +67,7 @@ static const char *words_of_reason(uint32_t number)
     case DESTERLIN_REFUSED_UNKNOWN_CODE: return "no such code";
     case DESTERLIN_REFUSED_NO_TILES: return "no such contents row, or it is not one of tiles";
     case DESTERLIN_REFUSED_UTF8: return "a text is not well-formed UTF-8, so it cannot be shown";
+    case DESTERLIN_REFUSED_COLUMN: return "a column has fewer entries than there are tiles";
     default: return "a reason of a later edition";
     }
 }
@@ -156,32 +165,84 @@ static void print_verdict(const struct lent *lent, uint32_t code)
     }
 }
 
-/* One line for each row of the screen, from the top: the tile row that is to be drawn, or "-". */
-static void print_screen(const struct lent *lent, const struct screen *screen)
+/* Columns for the tiles of a listing that is accepted, so that its header can be believed. Returns whether there is
+   memory for them. */
+static int make_columns(const struct lent *lent, struct tiles *tiles)
+{
+    tiles->size = DESTERLIN_COLUMN_SIZE(desterlin_word(lent->listing, 2 * DESTERLIN_TILES));
+    tiles->firsts = malloc(tiles->size);
+    tiles->zooms = malloc(tiles->size);
+    tiles->columns = malloc(tiles->size);
+    tiles->rows = malloc(tiles->size);
+    return tiles->size == 0
+        || (tiles->firsts != NULL && tiles->zooms != NULL && tiles->columns != NULL && tiles->rows != NULL);
+}
+
+static int fill(const struct lent *lent, struct tiles *tiles)
+{
+    uint8_t answer[DESTERLIN_FILL_ANSWER];
+    desterlin_fill(lent->listing, lent->listing_size, (uint8_t *)tiles->firsts, tiles->size,
+                   (uint8_t *)tiles->zooms, tiles->size, (uint8_t *)tiles->columns, tiles->size,
+                   (uint8_t *)tiles->rows, tiles->size, answer, sizeof answer);
+    uint32_t number = desterlin_word(answer, DESTERLIN_FILL_NUMBER);
+    if (number != DESTERLIN_ACCEPTED)
+        print_refusal("fill", number, desterlin_word(answer, DESTERLIN_FILL_REFUSED_TABLE),
+                      desterlin_word(answer, DESTERLIN_FILL_REFUSED_ROW));
+    return number == DESTERLIN_ACCEPTED;
+}
+
+/* Prints the tile row that is to be drawn at an address of the screen, or "-". Returns whether there is an answer. */
+static int print_tile(const struct lent *lent, const struct tiles *tiles, const struct screen *screen,
+                      int64_t column, int64_t row)
+{
+    uint8_t answer[DESTERLIN_LOOKUP_ANSWER];
+    desterlin_lookup_columns(lent->listing, lent->listing_size, (const uint8_t *)tiles->firsts, tiles->size,
+                             (const uint8_t *)tiles->zooms, tiles->size, (const uint8_t *)tiles->columns, tiles->size,
+                             (const uint8_t *)tiles->rows, tiles->size,
+                             screen->contents_row, screen->zoom, column, row, answer, sizeof answer);
+    uint32_t number = desterlin_word(answer, DESTERLIN_LOOKUP_NUMBER);
+    uint32_t tile = desterlin_word(answer, DESTERLIN_LOOKUP_TILE);
+    printf(" ");
+    if (number != DESTERLIN_ACCEPTED)
+        print_refusal("lookup", number, desterlin_word(answer, DESTERLIN_LOOKUP_REFUSED_TABLE),
+                      desterlin_word(answer, DESTERLIN_LOOKUP_REFUSED_ROW));
+    else if (tile == DESTERLIN_NONE)
+        printf("-");
+    else
+        printf("%" PRIu32, tile);
+    return number == DESTERLIN_ACCEPTED;
+}
+
+/* One line for each row of the screen, from the top, with a tile for each column. */
+static void print_screen(const struct lent *lent, const struct tiles *tiles, const struct screen *screen)
 {
     printf("screen: contents row %" PRIu32 ", zoom %" PRId64 ", columns %" PRId64 " to %" PRId64 "\n",
            screen->contents_row, screen->zoom, screen->first_column, screen->last_column);
     for (int64_t row = screen->first_row; row <= screen->last_row; row++) {
         printf("  row %" PRId64 ":", row);
-        for (int64_t column = screen->first_column; column <= screen->last_column; column++) {
-            uint8_t answer[DESTERLIN_LOOKUP_ANSWER];
-            desterlin_lookup(lent->listing, lent->listing_size, screen->contents_row, screen->zoom, column, row,
-                             answer, sizeof answer);
-            uint32_t number = desterlin_word(answer, DESTERLIN_LOOKUP_NUMBER);
-            if (number != DESTERLIN_ACCEPTED) {
-                printf(" ");
-                print_refusal("lookup", number, desterlin_word(answer, DESTERLIN_LOOKUP_REFUSED_TABLE),
-                              desterlin_word(answer, DESTERLIN_LOOKUP_REFUSED_ROW));
+        for (int64_t column = screen->first_column; column <= screen->last_column; column++)
+            if (!print_tile(lent, tiles, screen, column, row))
                 return;
-            }
-            uint32_t tile = desterlin_word(answer, DESTERLIN_LOOKUP_TILE);
-            if (tile == DESTERLIN_NONE)
-                printf(" -");
-            else
-                printf(" %" PRIu32, tile);
-        }
         printf("\n");
     }
+}
+
+/* Fills the columns once, for all lookups of the screen. Returns whether they could be filled. */
+static int draw(const struct lent *lent, const struct screen *screen)
+{
+    struct tiles tiles;
+    int is_filled = 0;
+    if (make_columns(lent, &tiles))
+        is_filled = fill(lent, &tiles);
+    else
+        fprintf(stderr, "no memory for the tiles in columns\n");
+    if (is_filled)
+        print_screen(lent, &tiles, screen);
+    free(tiles.firsts);
+    free(tiles.zooms);
+    free(tiles.columns);
+    free(tiles.rows);
+    return is_filled;
 }
 
 static int whole_number(const char *text, int64_t least, int64_t most, int64_t *number)
@@ -234,8 +295,8 @@ static int look_at(const char *path, const struct screen *screen)
     int status = report(&lent);
     if (status != UNUSABLE) {
         print_verdict(&lent, 541);
-        if (screen != NULL)
-            print_screen(&lent, screen);
+        if (screen != NULL && !draw(&lent, screen))
+            status = UNUSABLE;
     }
     free(lent.work);
     free(lent.listing);

@@ -1,16 +1,18 @@
 /*
- * Desterlin for a C program: report, verdict and lookup on one listing, and a writer of listings.
+ * Desterlin for a C program: report, verdict and lookup on one listing, its tile table in columns, and a writer of
+ * listings.
  *
  * A listing is the rows of a GeoPackage 1.2.1 as one string of octets; docs/LISTING.md has its layout, docs/RULES.md
  * what each code means. Link with target/staticlib/libdesterlin.a, which `rt staticlib desterlin` proves and writes: it
  * is x86-64 code. README.md says how a library for another machine is made, and what has to be assumed for it.
  *
- * What holds for all four calls:
+ * What holds for all seven calls:
  *
  * - A buffer is a pointer and its number of octets. It needs no alignment. The buffers of one call do not overlap.
  *   An empty buffer (0 octets) may have any pointer, NULL too. That each pointer is good for its number of octets is
  *   the caller's part: nothing can prove it.
- * - What is read, a listing or a part of one, may hold any octets at all, damaged ones too. It is never written.
+ * - What is read, a listing, a part of one or a column, may hold any octets at all, damaged ones too. It is never
+ *   written.
  * - Nothing is kept after a call: no pointer, no octet, no memory. Calls need no opening and no closing.
  * - No call allocates, reads a file, prints or takes more than 64 KiB of stack.
  * - Calls may run at the same time in several threads; they may share what is read, not a buffer that is written.
@@ -34,7 +36,7 @@ extern "C" {
  * The edition of this header and of the library that goes with it. It rises by one with each request that changes what
  * a caller has compiled: a call, a word of an answer, a size, a code, a reason. desterlin.pc has the same one.
  */
-#define DESTERLIN_VERSION 3
+#define DESTERLIN_VERSION 4
 
 /* "None", where a word would be a row number: no row, no partner, no tile. */
 #define DESTERLIN_NONE UINT32_C(4294967295)
@@ -42,15 +44,17 @@ extern "C" {
 /* The longest listing that is not refused, in octets. */
 #define DESTERLIN_LISTING_MOST 9762880
 
-/* The octets of each answer, and of one finding. */
+/* The octets of each answer, of one finding, and of a column with an entry for each of so many tiles. */
 #define DESTERLIN_REPORT_ANSWER 20
 #define DESTERLIN_VERDICT_ANSWER 20
 #define DESTERLIN_LOOKUP_ANSWER 16
+#define DESTERLIN_FILL_ANSWER 12
 #define DESTERLIN_WRITE_ANSWER 16
 #define DESTERLIN_FINDING 12
+#define DESTERLIN_COLUMN_SIZE(tiles) (8 * (size_t)(tiles))
 
 /*
- * Work is scratch memory that the caller lends to report and verdict. Its size changes the time of a call and never
+ * Work is scratch memory that the caller lends to reports and verdicts. Its size changes the time of a call and never
  * its answer: any size is good, 0 too. What it holds before a call does not matter. After an accepted call its octets
  * are unspecified; a call that is refused, or that returns 0, leaves them as they were.
  *
@@ -100,8 +104,10 @@ enum desterlin_table {
 
 /*
  * Why a listing is turned away, or not written. Report gives 1 to 8 and 13, verdict 9 too, lookup 10 too; they are
- * checked in the order 9, 1 to 8, 13, 10. Write gives 11, 5, 7, 8, 13 and 12, checked in that order. The place is a
- * table number and a row; it is 0 0 where nothing else is said.
+ * checked in the order 9, 1 to 8, 13, 10. Fill gives 1 to 8, 13 and 14, checked in that order. Report and lookup from
+ * columns give these, then 7 and 13 of an entry, and the lookup 10 in the end.
+ * Write gives 11, 5, 7, 8, 13 and 12, checked in that order. The place is a table number and a row; it is 0 0 where
+ * nothing else is said.
  */
 enum desterlin_reason {
     DESTERLIN_ACCEPTED = 0,            /* no refusal; the place is 0 0 */
@@ -118,7 +124,8 @@ enum desterlin_reason {
     DESTERLIN_REFUSED_NO_TILES = 10,   /* lookup: no such contents row, or its data_type is not "tiles" */
     DESTERLIN_REFUSED_PART = 11,       /* write: a part is not whole rows; place: the first such table, 0 */
     DESTERLIN_REFUSED_ROOM = 12,       /* write: the buffer is shorter than the listing */
-    DESTERLIN_REFUSED_UTF8 = 13        /* a text that is not well-formed UTF-8; place: its table and row */
+    DESTERLIN_REFUSED_UTF8 = 13,       /* a text that is not well-formed UTF-8; place: its table and row */
+    DESTERLIN_REFUSED_COLUMN = 14      /* a column has fewer entries than table 5 has rows; place: 5, 0 */
 };
 
 /*
@@ -185,7 +192,8 @@ enum desterlin_ruling {
  * Lookup: which tile row has this address, under the table_name of this contents row?
  *
  * It costs one pass over the listing, which is checked as in every call and then searched for the tile; nothing is kept
- * for the next one. Who draws many tiles from one listing does better with a table of their own, made once.
+ * for the next one. Who draws many tiles from one listing does better with a table of their own, made once, for which
+ * desterlin_fill gives the numbers.
  *
  * answer (DESTERLIN_LOOKUP_ANSWER octets), four words:
  *   0 tile           the lowest tile row with that name, zoom, column and row, or none
@@ -203,6 +211,90 @@ enum desterlin_lookup_word {
     DESTERLIN_LOOKUP_REFUSED_TABLE = 2,
     DESTERLIN_LOOKUP_REFUSED_ROW = 3
 };
+
+/*
+ * Fill: the tile table of a listing, written into four columns.
+ *
+ * Entry i of each column is of tile row i:
+ *   firsts    where its table_name stands: start times 2^32, plus length
+ *   zooms     its zoom_level
+ *   columns   its tile_column
+ *   rows      its tile_row
+ *
+ * An entry is a signed number of 64 bits: eight octets, little-endian, two's complement. A column needs one for each
+ * tile, which is DESTERLIN_COLUMN_SIZE(tiles) octets; desterlin_word(listing, 2 * DESTERLIN_TILES) is the number of
+ * tiles of an accepted listing. Longer columns are good, and each may have its own size: entries past the tiles, and
+ * octets past the last whole entry, keep their values.
+ *
+ * On a little-endian machine arrays of int64_t are such columns, with one cast each:
+ *
+ *     desterlin_fill(listing, listing_size,
+ *                    (uint8_t *)firsts, tiles * sizeof *firsts, (uint8_t *)zooms, tiles * sizeof *zooms,
+ *                    (uint8_t *)columns, tiles * sizeof *columns, (uint8_t *)rows, tiles * sizeof *rows,
+ *                    answer, sizeof answer);
+ *
+ * C and C++ allow it: the octets of any object may be read and written by way of unsigned char, which uint8_t is, and
+ * an int64_t is two's complement without padding. So after the call zooms[i] is the zoom_level of tile row i. On a
+ * big-endian machine it is not: there the columns are buffers of octets, and desterlin_word reads the lower half of
+ * entry i at 2 * i and the upper half at 2 * i + 1.
+ *
+ * What they are good for: the tiles as plain numbers, for a table of the caller's own; and the search of a lookup,
+ * which reads two columns, 16 octets a tile, in place of rows of 32. The check of the listing that comes before the
+ * search stays, and the texts that the columns spell are checked besides. A report gains nothing: it needs all four
+ * numbers of a tile anyway. docs/SPEED.md has what each comes to.
+ *
+ * They hold the tiles of one listing: for another one, or the same one changed, fill them again. No call keeps anything
+ * that could tell that they are old.
+ *
+ * answer (DESTERLIN_FILL_ANSWER octets), three words:
+ *   0 number         0 filled, or 1 to 8, 13 or 14 (enum desterlin_reason)
+ *   1 refused table  \ place of the refusal; 0 0 where filled
+ *   2 refused row    /
+ *
+ * What the columns hold before does not matter. A refused fill writes nothing to any of them.
+ */
+uint32_t desterlin_fill(const uint8_t *listing, size_t listing_size,
+                        uint8_t *firsts, size_t firsts_size,
+                        uint8_t *zooms, size_t zooms_size,
+                        uint8_t *columns, size_t columns_size,
+                        uint8_t *rows, size_t rows_size,
+                        uint8_t *answer, size_t answer_size);
+
+enum desterlin_fill_word {
+    DESTERLIN_FILL_NUMBER = 0,
+    DESTERLIN_FILL_REFUSED_TABLE = 1,
+    DESTERLIN_FILL_REFUSED_ROW = 2
+};
+
+/*
+ * Report and lookup from columns: desterlin_report and desterlin_lookup, with their answers, but the tiles are read
+ * from the columns. Where these hold what desterlin_fill writes, the answers are the same ones, which is proved.
+ *
+ * Any other numbers there are taken for the tile rows that they spell, as if table 5 had those. There are as many as
+ * table 5 has rows, a tile row's number is that of its entry, and entries past them are not read. An entry of firsts
+ * spells the text that starts at its upper half and is as long as its lower half says. It is refused under 7 where it
+ * is negative or that text is not within table 7, and under 13 where the text is not well-formed UTF-8; the place is 5
+ * and the entry.
+ *
+ * The listing is checked before that, and all of it, its own tile rows too. So 7 and 13 with table 5 may be of a row or
+ * of an entry: desterlin_report tells, which knows of no entry.
+ */
+uint32_t desterlin_report_columns(const uint8_t *listing, size_t listing_size,
+                                  const uint8_t *firsts, size_t firsts_size,
+                                  const uint8_t *zooms, size_t zooms_size,
+                                  const uint8_t *columns, size_t columns_size,
+                                  const uint8_t *rows, size_t rows_size,
+                                  uint8_t *findings, size_t findings_size,
+                                  uint8_t *work, size_t work_size,
+                                  uint8_t *answer, size_t answer_size);
+
+uint32_t desterlin_lookup_columns(const uint8_t *listing, size_t listing_size,
+                                  const uint8_t *firsts, size_t firsts_size,
+                                  const uint8_t *zooms, size_t zooms_size,
+                                  const uint8_t *columns, size_t columns_size,
+                                  const uint8_t *rows, size_t rows_size,
+                                  uint32_t contents_row, int64_t zoom, int64_t column, int64_t row,
+                                  uint8_t *answer, size_t answer_size);
 
 /*
  * Write: six row tables and the name octets, each lent as a part, become one listing.

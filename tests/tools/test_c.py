@@ -10,31 +10,32 @@ import unittest
 from pathlib import Path
 from typing import List, Tuple
 
-from packs import ROOT, SECOND, InRoom, Ran, framed, judged_by_second, needs_library
+from packs import BUILT, ROOT, SECOND, TESTS, InRoom, Ran, framed, judged_by_second, needs_library
 
 from desterlin import library
 from desterlin.listing import CONTENTS, LISTING_MOST, MATRICES, NAMES_MOST, SETS, TABLES, TILES, Listing
 from desterlin.rules import RULES
 
-TESTS = ROOT / "tests" / "tools"
 SAMPLES = ROOT / "samples"
-BUILT = ROOT / "target" / "tests" / "tools"
 TWICE = b"""\
 #include "desterlin.h"
 #include "desterlin.h"
-static uint8_t work[DESTERLIN_WORK_FOR(1000)];
-int main(void) { return work[0]; }
+static uint8_t work[DESTERLIN_WORK_FOR(1000)], column[DESTERLIN_COLUMN_SIZE(1000)];
+int main(void) { return work[0] + column[7999]; }
 """
 
 # The sum of the header's code, without comments, in each version.
-COMPILED = {1: "e12eb21fc7902aa5", 2: "a8f623c6b065515a", 3: "be91e474c9664c64"}
+COMPILED = {1: "e12eb21fc7902aa5", 2: "a8f623c6b065515a", 3: "be91e474c9664c64", 4: "2fafe7db99105671"}
 
+# From columns, a report and a lookup have the words of those from rows.
 ANSWERS = {
     "report": ["number", "refused table", "refused row", "total", "written"],
     "verdict": ["ruling", "first row", "number", "refused table", "refused row"],
     "lookup": ["tile", "number", "refused table", "refused row"],
+    "fill": ["number", "refused table", "refused row"],
     "write": ["number", "refused table", "refused row", "octets"],
 }
+CALLS = ["report", "verdict", "lookup", "fill", "report_columns", "lookup_columns", "write"]
 
 
 class Header(unittest.TestCase):
@@ -75,16 +76,17 @@ class Header(unittest.TestCase):
             self.assertEqual(named, [(word.upper().replace(" ", "_"), str(at)) for at, word in enumerate(words)])
             told = text.split(f"(DESTERLIN_{call.upper()}_ANSWER octets)")[1].split("*/")[0]
             self.assertEqual(re.findall(r"^ \*   (\d) ([a-z ]+?)  ", told, re.M), list(zip("01234", words)))
-            row = re.findall(rf"^\| {call} \| {4 * len(words)} octets \| (.*) \|$", page, re.M)
+            octets = f"{4 * len(words)} octets"
+            row = re.findall(rf"^\| {call}(?:, {call}_columns)? \| {octets} \| (.*) \|$", page, re.M)
             self.assertEqual([re.sub(r" \(.*?\)", "", line).split(", ") for line in row], [words])
 
     def test_the_calls_are_declared_alike_in_the_page(self) -> None:
-        pattern = r"^uint32_t desterlin_\w+ *\([^)]*\);"
+        pattern = r"^uint32_t desterlin_(\w+) *(\([^)]*\));"
+        texts = [(ROOT / name).read_text(encoding="utf-8") for name in ["include/desterlin.h", "docs/API.md"]]
         header, page = (
-            [re.sub(r"\s+", "", call) for call in re.findall(pattern, (ROOT / name).read_text(encoding="utf-8"), re.M)]
-            for name in ["include/desterlin.h", "docs/API.md"]
+            {call: re.sub(r"\s+", "", lent) for call, lent in re.findall(pattern, text, re.M)} for text in texts
         )
-        self.assertEqual((len(header), header), (len(ANSWERS), page))
+        self.assertEqual((list(header), header), (CALLS, page))
 
     def test_rows_are_of_the_size_that_they_are(self) -> None:
         """The tools' tables are those of docs/LISTING.md, as test_words.py sees."""
@@ -222,7 +224,7 @@ class Sanitizers(unittest.TestCase):
         ran = Ran([TESTS / "cc-sanitized", TESTS / "overrun.c", "-o", program])
         self.assertEqual((ran.status, ran.err), (0, ""))
         os.environ["ASAN_OPTIONS"] = "detect_leaks=0"
-        for buffer in ["listing", "findings", "work", "answer"]:
+        for buffer in ["listing", "findings", "work", "answer", "filled", "column"]:
             with self.subTest(buffer):
                 self.assertIn("AddressSanitizer: heap-buffer-overflow", Ran([program, buffer, listing]).err)
         self.assertIn("AddressSanitizer: heap-use-after-free", Ran([program, "freed", listing]).err)
@@ -356,20 +358,37 @@ class CallLibrary(unittest.TestCase):
 
 @needs_library
 class Page(unittest.TestCase):
-    def test_what_it_has_in_c_does_what_it_says(self) -> None:
-        page = (ROOT / "docs" / "API.md").read_text(encoding="utf-8").split("## Write")[1]
+    """What docs/API.md has in C does what it says."""
+
+    def printed_by_code(self, heading: str, before: str, after: str, octets: bytes = b"") -> bytes:
+        """What the code below a heading prints, with more of a program around it."""
+        page = (ROOT / "docs" / "API.md").read_text(encoding="utf-8").split(heading)[1]
         code = page.split("```c\n")[1].split("```")[0]
-        prints = 'printf("%u %u\\n", (unsigned)number, (unsigned)octets); fwrite(listing, 1, octets, stdout);'
-        source = f'#include <stdio.h>\n#include "desterlin.h"\nint main(void) {{\n{code}{prints} return 0; }}\n'
+        headers = '#include <stdio.h>\n#include <stdlib.h>\n#include "desterlin.h"\n'
+        source = f"{headers}int main(void) {{\n{before}\n{code}{after} return 0; }}\n"
         compiler = os.environ.get("DESTERLIN_CC") or ROOT / "tools" / "cc-x86-64"
         flags = ["-std=c99", "-pedantic", "-Wall", "-Wextra", "-Werror", f"-I{ROOT / 'include'}"]
         BUILT.mkdir(parents=True, exist_ok=True)
         linked: "List[object]" = ["-x", "c", "-", "-x", "none", library.archive(), "-o", BUILT / "page"]
         ran = Ran([compiler, *flags, *linked], source.encode())
         self.assertEqual((ran.status, ran.err), (0, ""))
-        ran = Ran([BUILT / "page"])
-        line, _, listing = ran.octets.partition(b"\n")
-        self.assertEqual((ran.status, line, len(listing)), (0, b"0 100", 100))
+        ran = Ran([BUILT / "page"], octets)
+        self.assertEqual((ran.status, ran.err), (0, ""))
+        return ran.octets
+
+    def test_tiles_in_columns(self) -> None:
+        reads = "static uint8_t listing[DESTERLIN_LISTING_MOST];"
+        reads += "size_t listing_size = fread(listing, 1, sizeof listing, stdin);"
+        prints = 'printf("%u %u\\n", (unsigned)drawn[0], (unsigned)drawn[1]);'
+        listing = (SAMPLES / "doubled-address.listing").read_bytes()
+        printed = self.printed_by_code("## Tiles in columns", reads, prints, listing)
+        answers = [Ran([SECOND, "lookup", 0, 1, column, 0], listing).out for column in range(2)]
+        self.assertEqual([f"tile {tile}\n" for tile in printed.decode().split()], answers)
+
+    def test_write(self) -> None:
+        prints = 'printf("%u %u\\n", (unsigned)number, (unsigned)octets); fwrite(listing, 1, octets, stdout);'
+        line, _, listing = self.printed_by_code("## Write", "", prints).partition(b"\n")
+        self.assertEqual((line, len(listing)), (b"0 100", 100))
         # The one reference system is good; two others are missing, and so are contents.
         self.assertEqual(judged_by_second(listing), "finding 112 - -\nfinding 113 - -\nfinding 171 - -\ntotal 3\n")
 
