@@ -50,7 +50,7 @@ static int64_t read_i64(void)
 
 void read_mark(void)
 {
-    static const char mark[] = "cases 2\n";
+    static const char mark[] = "cases 3\n";
     struct octets read = { 0 };
     read_octets(&read, sizeof mark - 1);
     if (memcmp(read.at, mark, read.size) != 0)
@@ -75,8 +75,8 @@ int read_given(struct given *given)
         check_end();
         return 0;
     }
-    if (given->strings != A_LISTING && given->strings != PARTS)
-        broken("neither a listing, nor parts, nor the end");
+    if (given->strings != A_LISTING && given->strings != WITH_COLUMNS && given->strings != PARTS)
+        broken("neither a listing, nor one with columns, nor parts, nor the end");
     read_octets(&given->origin, read_u32());
     for (uint32_t i = 0; i < given->strings; i++)
         read_octets(&given->string[i], read_u32());
@@ -85,10 +85,31 @@ int read_given(struct given *given)
     return 1;
 }
 
+static int may_be_asked(const struct given *given, uint32_t asked)
+{
+    switch (given->strings) {
+    case PARTS:
+        return asked == WRITE;
+    case WITH_COLUMNS:
+        return asked == FILL || asked == REPORT_COLUMNS || asked == LOOKUP_COLUMNS;
+    default:
+        return asked == REPORT || asked == VERDICT || asked == LOOKUP;
+    }
+}
+
+/* The octets of the strings behind the first, all together. */
+static size_t size_of_columns(const struct given *given)
+{
+    size_t size = 0;
+    for (uint32_t i = 1; i < given->strings; i++)
+        size += given->string[i].size;
+    return size;
+}
+
 void read_call(const struct given *given, struct call *call)
 {
     uint32_t asked = read_u32();
-    if (given->strings == PARTS ? asked != WRITE : asked < REPORT || asked > LOOKUP)
+    if (!may_be_asked(given, asked))
         broken("a call of no kind, or of none for what is given");
     call->asked = (enum asked)asked;
     call->number = read_u32();
@@ -96,6 +117,8 @@ void read_call(const struct given *given, struct call *call)
     call->column = read_i64();
     call->row = read_i64();
     call->output_size = read_u32();
+    if (asked == FILL && call->output_size != size_of_columns(given))
+        broken("a fill does not keep the lengths of its columns");
     call->work_size = read_u32();
     call->answer_size = read_u32();
     call->fill = (uint8_t)read_u32();

@@ -9,7 +9,7 @@
 #include <stddef.h>
 #include <stdint.h>
 
-enum asked { REPORT = 1, VERDICT = 2, LOOKUP = 3, WRITE = 4 };
+enum asked { REPORT = 1, VERDICT = 2, LOOKUP = 3, WRITE = 4, FILL = 5, REPORT_COLUMNS = 6, LOOKUP_COLUMNS = 7, ASKED };
 
 /* Octets that grow with what is read into them. */
 struct octets {
@@ -17,12 +17,12 @@ struct octets {
     size_t size, room;
 };
 
-/* What calls are given to read: a listing, or the seven parts of one. */
-enum { A_LISTING = 1, PARTS = 7 };
+/* What calls are given: a listing, a listing and its four columns, or the seven parts of one. */
+enum { A_LISTING = 1, WITH_COLUMNS = 5, PARTS = 7 };
 
 struct given {
     struct octets origin; /* the commands that make it, without the first "second", not ended by a 0 */
-    uint32_t strings;     /* A_LISTING or PARTS */
+    uint32_t strings;     /* A_LISTING, WITH_COLUMNS or PARTS */
     struct octets string[PARTS];
     uint32_t calls; /* how many follow */
 };
@@ -31,7 +31,8 @@ struct call {
     enum asked asked;
     uint32_t number; /* the code of a verdict, the contents row of a lookup */
     int64_t zoom, column, row;
-    size_t output_size, work_size, answer_size; /* output: the findings of a report, the listing of a write */
+    /* output: the findings of a report, the listing of a write, the columns of a fill one after the other */
+    size_t output_size, work_size, answer_size;
     uint8_t fill;
     /* what must come of it */
     uint32_t returned;

@@ -20,8 +20,8 @@
 
 enum { MOST_PRINTED = 20 };
 
-/* What is given comes first: the listing, or the parts in their order. */
-enum buffer { GIVEN, OUTPUT = GIVEN + PARTS, WORK, ANSWER, BUFFERS };
+/* What is given comes first: the listing, and with it the columns, or the parts in their order. */
+enum buffer { GIVEN, COLUMNS = GIVEN + A_LISTING, OUTPUT = GIVEN + PARTS, WORK, ANSWER, BUFFERS };
 
 /* The case that is being tried. The handler of a fault tells of it too, so it is the one thing that all can see. */
 static struct {
@@ -32,7 +32,7 @@ static struct {
 } tried;
 
 static struct {
-    unsigned long listings, parts, calls[WRITE + 1], written, short_answers, differences;
+    unsigned long listings, with_columns, parts, calls[ASKED], written, short_answers, differences;
 } counts;
 
 static int has_buffer(enum buffer buffer)
@@ -40,9 +40,9 @@ static int has_buffer(enum buffer buffer)
     enum asked asked = tried.call.asked;
     switch (buffer) {
     case OUTPUT:
-        return asked == REPORT || asked == WRITE;
+        return asked == REPORT || asked == WRITE || asked == REPORT_COLUMNS;
     case WORK:
-        return asked == REPORT || asked == VERDICT;
+        return asked == REPORT || asked == VERDICT || asked == REPORT_COLUMNS;
     case ANSWER:
         return 1;
     default:
@@ -50,10 +50,17 @@ static int has_buffer(enum buffer buffer)
     }
 }
 
+/* Is it a column that the call writes? Those that are read are given with what they hold. */
+static int is_to_be_filled(enum buffer buffer)
+{
+    return tried.call.asked == FILL && buffer >= COLUMNS && buffer < OUTPUT;
+}
+
 static const char *name_of(enum buffer buffer)
 {
     static const char *const parts[PARTS] = { "references", "contents",   "sets", "matrices",
                                               "tiles",      "extensions", "names" };
+    static const char *const listing_and_columns[WITH_COLUMNS] = { "listing", "firsts", "zooms", "columns", "rows" };
     switch (buffer) {
     case OUTPUT:
         return tried.call.asked == WRITE ? "listing" : "findings";
@@ -62,29 +69,24 @@ static const char *name_of(enum buffer buffer)
     case ANSWER:
         return "answer";
     default:
-        return tried.given.strings == PARTS ? parts[buffer - GIVEN] : "listing";
+        return (tried.given.strings == PARTS ? parts : listing_and_columns)[buffer - GIVEN];
     }
 }
 
 /* The case as commands that repeat it, and then what the commands cannot tell. */
 static void print_case(void)
 {
+    static const char *const commands[ASKED] = { "",      "judge", "verdict",       "lookup",
+                                                 "write", "fill",  "judge-columns", "lookup-columns" };
     const struct call *call = &tried.call;
-    printf("second %.*s | second ", (int)tried.given.origin.size, (const char *)tried.given.origin.at);
-    switch (call->asked) {
-    case REPORT:
-        printf("judge");
-        break;
-    case VERDICT:
-        printf("verdict %" PRIu32, call->number);
-        break;
-    case LOOKUP:
-        printf("lookup %" PRIu32 " %" PRId64 " %" PRId64 " %" PRId64, call->number, call->zoom, call->column, call->row);
-        break;
-    case WRITE:
-        printf("write %zu", call->output_size);
-        break;
-    }
+    printf("second %.*s | second %s", (int)tried.given.origin.size, (const char *)tried.given.origin.at,
+           commands[call->asked]);
+    if (call->asked == VERDICT)
+        printf(" %" PRIu32, call->number);
+    else if (call->asked == LOOKUP || call->asked == LOOKUP_COLUMNS)
+        printf(" %" PRIu32 " %" PRId64 " %" PRId64 " %" PRId64, call->number, call->zoom, call->column, call->row);
+    else if (call->asked == WRITE)
+        printf(" %zu", call->output_size);
     printf(" (fill %u", call->fill);
     for (enum buffer buffer = GIVEN; buffer < BUFFERS; buffer++)
         if (has_buffer(buffer))
@@ -109,10 +111,12 @@ static void differs(const char *format, ...)
 
 static void print_counts(void)
 {
-    printf("compared %lu listings in %lu reports, %lu verdicts and %lu lookups, and the parts of %lu in %lu writes, of "
-           "which %lu wrote a listing that is accepted; %lu calls with an answer too short: %lu differences\n",
+    printf("compared %lu listings in %lu reports, %lu verdicts and %lu lookups, the parts of %lu in %lu writes, of which "
+           "%lu wrote a listing that is accepted, and the columns of %lu in %lu fills, %lu reports and %lu lookups; %lu "
+           "calls with an answer too short: %lu differences\n",
            counts.listings, counts.calls[REPORT], counts.calls[VERDICT], counts.calls[LOOKUP], counts.parts,
-           counts.calls[WRITE], counts.written, counts.short_answers, counts.differences);
+           counts.calls[WRITE], counts.written, counts.with_columns, counts.calls[FILL], counts.calls[REPORT_COLUMNS],
+           counts.calls[LOOKUP_COLUMNS], counts.short_answers, counts.differences);
 }
 
 /*
@@ -152,6 +156,15 @@ static void compare_octets(enum buffer buffer, const uint8_t *must)
                 desterlin_word(lent->octets, word), desterlin_word(must, word));
 }
 
+/* What a column must hold after a fill. */
+static const uint8_t *column_after(enum buffer buffer)
+{
+    const uint8_t *column = tried.call.output.at;
+    for (enum buffer before = COLUMNS; before < buffer; before++)
+        column += tried.lent[before].size;
+    return column;
+}
+
 /* What a buffer must hold after the call. */
 static const uint8_t *octets_after(enum buffer buffer)
 {
@@ -161,7 +174,7 @@ static const uint8_t *octets_after(enum buffer buffer)
     case ANSWER:
         return tried.call.answer.at;
     default:
-        return tried.given.string[buffer - GIVEN].at;
+        return is_to_be_filled(buffer) ? column_after(buffer) : tried.given.string[buffer - GIVEN].at;
     }
 }
 
@@ -211,6 +224,33 @@ static uint32_t returned_by_write(void)
                            part[6].octets, part[6].size, listing->octets, listing->size, answer->octets, answer->size);
 }
 
+static uint32_t returned_by_fill(void)
+{
+    const struct lent *listing = &tried.lent[GIVEN], *column = &tried.lent[COLUMNS], *answer = &tried.lent[ANSWER];
+    return desterlin_fill(listing->octets, listing->size, column[0].octets, column[0].size, column[1].octets,
+                          column[1].size, column[2].octets, column[2].size, column[3].octets, column[3].size,
+                          answer->octets, answer->size);
+}
+
+static uint32_t returned_by_report_columns(void)
+{
+    const struct lent *listing = &tried.lent[GIVEN], *column = &tried.lent[COLUMNS];
+    const struct lent *findings = &tried.lent[OUTPUT], *work = &tried.lent[WORK], *answer = &tried.lent[ANSWER];
+    return desterlin_report_columns(listing->octets, listing->size, column[0].octets, column[0].size, column[1].octets,
+                                    column[1].size, column[2].octets, column[2].size, column[3].octets, column[3].size,
+                                    findings->octets, findings->size, work->octets, work->size, answer->octets,
+                                    answer->size);
+}
+
+static uint32_t returned_by_lookup_columns(void)
+{
+    const struct call *call = &tried.call;
+    const struct lent *listing = &tried.lent[GIVEN], *column = &tried.lent[COLUMNS], *answer = &tried.lent[ANSWER];
+    return desterlin_lookup_columns(listing->octets, listing->size, column[0].octets, column[0].size, column[1].octets,
+                                    column[1].size, column[2].octets, column[2].size, column[3].octets, column[3].size,
+                                    call->number, call->zoom, call->column, call->row, answer->octets, answer->size);
+}
+
 static uint32_t returned_by_call(void)
 {
     const struct call *call = &tried.call;
@@ -226,6 +266,12 @@ static uint32_t returned_by_call(void)
     case LOOKUP:
         return desterlin_lookup(listing->octets, listing->size, call->number, call->zoom, call->column, call->row,
                                 answer->octets, answer->size);
+    case FILL:
+        return returned_by_fill();
+    case REPORT_COLUMNS:
+        return returned_by_report_columns();
+    case LOOKUP_COLUMNS:
+        return returned_by_lookup_columns();
     default:
         return returned_by_write();
     }
@@ -258,7 +304,7 @@ static void lend_buffers(const struct ground *grounds)
             continue;
         tried.lent[buffer] = lend(grounds[buffer], size_of(buffer), (enum place)(combination % PLACES), fill);
         combination /= PLACES;
-        if (buffer < OUTPUT)
+        if (buffer < OUTPUT && !is_to_be_filled(buffer))
             put_octets(tried.lent[buffer], tried.given.string[buffer - GIVEN].at);
     }
 }
@@ -276,6 +322,20 @@ static void try_call(const struct ground *grounds)
     counts.short_answers += tried.call.returned == 0;
     if (tried.call.asked == WRITE && counts.differences == differences && has_written())
         read_back();
+}
+
+static void count_given(void)
+{
+    switch (tried.given.strings) {
+    case PARTS:
+        counts.parts++;
+        break;
+    case WITH_COLUMNS:
+        counts.with_columns++;
+        break;
+    default:
+        counts.listings++;
+    }
 }
 
 static void watch_for_faults(void)
@@ -296,7 +356,7 @@ int main(void)
     while (read_given(&tried.given)) {
         for (uint32_t i = 0; i < tried.given.calls; i++)
             try_call(grounds);
-        ++*(tried.given.strings == PARTS ? &counts.parts : &counts.listings);
+        count_given();
     }
     print_counts();
     return counts.differences == 0 ? ALL_SAME : SOME_DIFFERENT;

@@ -16,16 +16,17 @@ pub fn printed(input: &[u8]) -> String {
     if input.len() > GREATEST_INPUT {
         return "oversize\n".to_string();
     }
-    printed_with_room(input, ROOM)
+    printed_with_room(report(input), ROOM)
 }
 
-/// The same without limits on the input and on the findings printed.
-pub fn printed_in_full(input: &[u8]) -> String {
-    printed_with_room(input, usize::MAX)
+/// A report in the same form, without limits on the input and on the findings
+/// printed.
+pub fn printed_in_full(outcome: Result<Vec<Finding>, Refusal>) -> String {
+    printed_with_room(outcome, usize::MAX)
 }
 
-fn printed_with_room(input: &[u8], room: usize) -> String {
-    match report(input) {
+fn printed_with_room(outcome: Result<Vec<Finding>, Refusal>, room: usize) -> String {
+    match outcome {
         Ok(findings) => printed_findings(&findings, room),
         Err(refusal) => format!("{}\n", refused(refusal)),
     }

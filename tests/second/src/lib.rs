@@ -3,11 +3,11 @@
 //!
 //! * [`listing`] reads octets, or says why it turns them away;
 //! * [`rules`] holds the 36 codes and finds what breaks them;
-//! * [`calls`] answers report, verdict, lookup and write, in the papers' terms
-//!   and in the octets of the C calls;
+//! * [`calls`] answers report, verdict, lookup and write, and fill, report and
+//!   lookup by columns, in the papers' terms and in the octets of the C calls;
 //! * [`cases`] chooses calls, and says what must come of each in every octet;
 //! * [`desk`] says what the desk program must print;
-//! * [`make`] and [`generate`] make listings;
+//! * [`make`] and [`generate`] make listings, parts and columns;
 //! * [`coverage`] counts what the made listings reach;
 //! * [`samples`] and [`vectors`] hold what was worked out by hand.
 

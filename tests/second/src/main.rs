@@ -3,7 +3,10 @@
 use std::io::{self, Read, Write};
 use std::process::ExitCode;
 
-use second::calls::{lookup, verdict, write, Parts, Question, Verdict};
+use second::calls::{fill, lookup, lookup_columns, report, report_columns, verdict, write};
+use second::calls::{Columns, Parts, Question, Verdict};
+use second::generate::ColumnsCase;
+use second::listing::Refusal;
 use second::{cases, coverage, desk, generate, samples, vectors};
 
 const USAGE: &str = "\
@@ -18,6 +21,11 @@ usage: second judge < LISTING
        second parts SEED > PARTS
        second cut < LISTING > PARTS
        second write ROOM < PARTS
+       second columns SEED < LISTING > LENT
+       second text-columns NUMBER > LENT
+       second fill < LENT
+       second judge-columns < LENT
+       second lookup-columns CONTENTS ZOOM COLUMN ROW < LENT
        second cases FIRST COUNT > CASES
        second cases-limits TILES > CASES
        second cases-texts FIRST COUNT > CASES
@@ -56,25 +64,28 @@ fn main() -> ExitCode {
 
 fn run(words: &[&str]) -> Result<Outcome, String> {
     match words {
-        ["judge"] => well(desk::printed_in_full(&input()?)),
+        ["judge"] => well(desk::printed_in_full(report(&input()?))),
         ["desk"] => well(desk::printed(&input()?)),
         ["verdict", code] => well(verdict_line(&input()?, number(code)?)),
-        ["lookup", contents, zoom, column, row] => {
-            let question = Question {
-                contents_row: number(contents)?,
-                zoom: number(zoom)?,
-                column: number(column)?,
-                row: number(row)?,
-            };
-            well(lookup_line(&input()?, question))
+        ["lookup", asked @ ..] => {
+            let question = question(asked)?;
+            well(lookup_line(lookup(&input()?, question)))
         }
         ["make", seed] => well(generate::generate(number(seed)?).listing),
         ["limit", limit] => well(limit_listing(number(limit)?)?),
         ["full", kind, tiles] => well(full(kind, number(tiles)?)?),
         ["text", text] => well(generate::text_listing(number(text)?)),
-        ["parts", seed] => well(parts_as_octets(&generate::generate_parts(number(seed)?).parts)),
-        ["cut"] => well(parts_as_octets(&generate::cut(&input()?))),
-        ["write", room] => well(write_line(&parts_in(&input()?)?, number(room)?)),
+        ["parts", seed] => well(strings_as_octets(&generate::generate_parts(number(seed)?).parts)),
+        ["cut"] => well(strings_as_octets(&generate::cut(&input()?))),
+        ["write", room] => well(write_line(&strings_in(&input()?)?, number(room)?)),
+        ["columns", seed] => well(lent(generate::generate_columns(number(seed)?, input()?))),
+        ["text-columns", text] => well(lent(generate::text_columns(number(text)?))),
+        ["fill"] => on_columns(fill_line),
+        ["judge-columns"] => on_columns(|l, c| desk::printed_in_full(report_columns(l, c))),
+        ["lookup-columns", asked @ ..] => {
+            let question = question(asked)?;
+            on_columns(|l, c| lookup_line(lookup_columns(l, c, question)))
+        }
         ["time", kind, tiles] => well(coverage::timing(&full(kind, number(tiles)?)?)),
         ["coverage", first, count] => {
             let table = coverage::table(number(first)?, number(count)?);
@@ -128,26 +139,50 @@ fn limit_listing(limit: usize) -> Result<Vec<u8>, String> {
     Ok(make())
 }
 
-/// Parts as the commands hand them on: each after its length, a u32.
-fn parts_as_octets(parts: &Parts) -> Vec<u8> {
-    let part = |part: &Vec<u8>| [&(part.len() as u32).to_le_bytes(), part.as_slice()].concat();
-    parts.iter().flat_map(part).collect()
+/// Parts and the like as the commands hand them on: each after its length, a u32.
+fn strings_as_octets(strings: &[Vec<u8>]) -> Vec<u8> {
+    let string = |string: &Vec<u8>| [&(string.len() as u32).to_le_bytes(), &string[..]].concat();
+    strings.iter().flat_map(string).collect()
 }
 
-fn parts_in(octets: &[u8]) -> Result<Parts, String> {
+fn strings_in<const COUNT: usize>(octets: &[u8]) -> Result<[Vec<u8>; COUNT], String> {
     let mut rest = octets;
-    let mut parts = Parts::default();
-    for part in &mut parts {
-        let (length, after) = rest.split_first_chunk().ok_or("the parts break off")?;
+    let mut strings = [const { Vec::new() }; COUNT];
+    for string in &mut strings {
+        let breaks_off = || format!("fewer than {COUNT} strings of octets");
+        let (length, after) = rest.split_first_chunk().ok_or_else(breaks_off)?;
         let length = u32::from_le_bytes(*length) as usize;
-        let (octets, after) = after.split_at_checked(length).ok_or("the parts break off")?;
-        *part = octets.to_vec();
+        let (octets, after) = after.split_at_checked(length).ok_or_else(breaks_off)?;
+        *string = octets.to_vec();
         rest = after;
     }
     match rest {
-        [] => Ok(parts),
-        _ => Err("there is more than seven parts".to_string()),
+        [] => Ok(strings),
+        _ => Err(format!("more than {COUNT} strings of octets")),
     }
+}
+
+/// What is lent to the calls on columns: the listing, and then the columns.
+fn lent(case: ColumnsCase) -> Vec<u8> {
+    strings_as_octets(&[&[case.listing][..], &case.columns].concat())
+}
+
+/// What is said of the listing and the columns in the input.
+fn on_columns(line: impl FnOnce(&[u8], &Columns) -> String) -> Result<Outcome, String> {
+    let [listing, columns @ ..] = strings_in::<5>(&input()?)?;
+    well(line(&listing, &columns))
+}
+
+fn question(asked: &[&str]) -> Result<Question, String> {
+    let [contents_row, zoom, column, row] = asked else {
+        return Err(USAGE.to_string());
+    };
+    Ok(Question {
+        contents_row: number(contents_row)?,
+        zoom: number(zoom)?,
+        column: number(column)?,
+        row: number(row)?,
+    })
 }
 
 /// Prints while it goes: the cases of some thousand listings are too many
@@ -169,8 +204,8 @@ fn verdict_line(listing: &[u8], code: u32) -> String {
     }
 }
 
-fn lookup_line(listing: &[u8], question: Question) -> String {
-    match lookup(listing, question) {
+fn lookup_line(outcome: Result<Option<u32>, Refusal>) -> String {
+    match outcome {
         Ok(Some(row)) => format!("tile {row}\n"),
         Ok(None) => "tile -\n".to_string(),
         Err(refusal) => format!("{}\n", desk::refused(refusal)),
@@ -180,6 +215,13 @@ fn lookup_line(listing: &[u8], question: Question) -> String {
 fn write_line(parts: &Parts, room: usize) -> String {
     match write(parts, room) {
         Ok(listing) => format!("octets {}\n", listing.len()),
+        Err(refusal) => format!("{}\n", desk::refused(refusal)),
+    }
+}
+
+fn fill_line(listing: &[u8], columns: &Columns) -> String {
+    match fill(listing, columns) {
+        Ok(_) => "filled\n".to_string(),
         Err(refusal) => format!("{}\n", desk::refused(refusal)),
     }
 }

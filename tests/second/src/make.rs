@@ -257,6 +257,12 @@ pub fn set_u32(octets: &mut [u8], at: usize, word: u32) {
     }
 }
 
+pub fn set_i64(octets: &mut [u8], at: usize, number: i64) {
+    if let Some(place) = octets.get_mut(at..at + 8) {
+        place.copy_from_slice(&number.to_le_bytes());
+    }
+}
+
 pub fn set_count(octets: &mut [u8], table: usize, count: u32) {
     set_u32(octets, count_at(table), count);
 }

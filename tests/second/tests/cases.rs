@@ -2,8 +2,9 @@
 //! what is expected of a call agrees with what the paper says of all calls.
 
 use second::calls::report;
-use second::cases::{calls, filled, write_seeds, writes, Asked, Call, Expected};
-use second::generate::{generate, generate_parts};
+use second::cases::{calls, column_calls, filled, write_seeds, writes};
+use second::cases::{Asked, Call, Expected, Given};
+use second::generate::{generate, generate_columns, generate_parts};
 use second::listing::read;
 use second::rules::CODES;
 
@@ -63,7 +64,8 @@ fn each_listing_meets_every_code_and_one_that_is_none() {
 fn a_short_answer_and_a_refusal_leave_everything_else_as_it_was() {
     for (seed, listing, calls) in cases() {
         for call in calls {
-            let Expected { returned, output, answer, keeps_work } = call.expected(&listing);
+            let Expected { returned, output, answer, keeps_work } =
+                call.expected(Given::alone(&listing));
             assert_eq!((output.len(), answer.len()), (call.findings, call.answer));
             if returned == 0 {
                 assert_eq!(answer, filled(call.answer, call.fill), "seed {seed}");
@@ -82,7 +84,11 @@ fn work_never_changes_what_is_expected() {
     for (seed, listing, calls) in cases() {
         for call in calls {
             let without = Call { work: 0, ..call };
-            assert_eq!(without.expected(&listing), call.expected(&listing), "seed {seed}");
+            assert_eq!(
+                without.expected(Given::alone(&listing)),
+                call.expected(Given::alone(&listing)),
+                "seed {seed}"
+            );
         }
     }
 }
@@ -95,12 +101,14 @@ fn a_stream_depends_on_its_seeds_alone_and_ends_with_its_counts() {
     };
     let stream = written();
     assert!(stream == written());
-    assert!(stream.starts_with(b"cases 2\n"));
+    assert!(stream.starts_with(b"cases 3\n"));
     let made = (7..79).map(|seed| {
-        let parts = generate_parts(seed).parts;
-        calls(seed, &generate(seed).listing).len() + writes(seed, &parts).len()
+        let (listing, parts) = (generate(seed).listing, generate_parts(seed).parts);
+        let by_rows = calls(seed, &listing).len() + writes(seed, &parts).len();
+        let columns = generate_columns(seed, listing);
+        by_rows + column_calls(seed, Given::of(&columns)).len()
     });
-    let counts = [0, 2 * 72, made.sum::<usize>() as u32];
+    let counts = [0, 3 * 72, made.sum::<usize>() as u32];
     let end: Vec<u8> = counts.iter().flat_map(|count| count.to_le_bytes()).collect();
     assert!(stream.ends_with(&end));
 }

@@ -1,10 +1,15 @@
-//! The calls in the papers' terms: report, verdict and lookup; and write.
+//! The calls in the papers' terms: report, verdict and lookup; write; and fill,
+//! with report and lookup by columns.
 
+mod columns;
 mod octets;
 mod write;
 
+pub use columns::{fill, lookup_columns, report_columns, rewritten};
+pub use columns::{name_entry, Columns, COLUMN_COUNT, ENTRY};
+pub use octets::{fill_call, lookup_columns_call, report_columns_call};
 pub use octets::{lookup_call, report_call, verdict_call, write_call};
-pub use octets::{Called, ReportCalled, WriteCalled};
+pub use octets::{Called, FillCalled, ReportCalled, WriteCalled};
 pub use write::{check_lengths, put_together, size_of, write, Parts};
 
 use crate::listing::{read, Refusal};

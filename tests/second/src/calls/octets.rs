@@ -5,11 +5,13 @@
 //! * verdict: verdict (0 pass, 1 fail, 2 not testable, 3 refused), row, then
 //!   number, table and row of the place;
 //! * lookup: row, then number, table and row of the place;
-//! * write: number, table, row, octets of the listing.
+//! * write: number, table, row, octets of the listing;
+//! * fill: number, table, row; report and lookup by columns as those by rows.
 
-use super::{lookup, report, verdict, write, Parts, Question, Verdict};
+use super::{fill, lookup, lookup_columns, report, report_columns, verdict, write};
+use super::{Columns, Parts, Question, Verdict};
 use crate::listing::{Refusal, NONE};
-use crate::rules::WORDS_OF_A_FINDING;
+use crate::rules::{Finding, WORDS_OF_A_FINDING};
 
 /// What a call returns, and its answer buffer afterwards.
 #[derive(Clone, Debug, PartialEq, Eq)]
@@ -32,6 +34,14 @@ pub struct WriteCalled {
     pub returned: u32,
     pub answer: Vec<u8>,
     pub listing: Vec<u8>,
+}
+
+/// The same for a fill, with the columns afterwards.
+#[derive(Clone, Debug, PartialEq, Eq)]
+pub struct FillCalled {
+    pub returned: u32,
+    pub answer: Vec<u8>,
+    pub columns: Columns,
 }
 
 const ACCEPTED: Refusal = Refusal::at_large(0);
@@ -59,7 +69,25 @@ fn answered(answer: &[u8], words: &[u32]) -> Called {
 
 /// `desterlin_report`, given what both buffers hold before.
 pub fn report_call(listing: &[u8], findings: &[u8], answer: &[u8]) -> ReportCalled {
-    let (refusal, found) = match report(listing) {
+    reported(report(listing), findings, answer)
+}
+
+/// `desterlin_report_columns`, given what both buffers hold before.
+pub fn report_columns_call(
+    listing: &[u8],
+    columns: &Columns,
+    findings: &[u8],
+    answer: &[u8],
+) -> ReportCalled {
+    reported(report_columns(listing, columns), findings, answer)
+}
+
+fn reported(
+    outcome: Result<Vec<Finding>, Refusal>,
+    findings: &[u8],
+    answer: &[u8],
+) -> ReportCalled {
+    let (refusal, found) = match outcome {
         Ok(found) => (ACCEPTED, found),
         Err(refusal) => (refusal, Vec::new()),
     };
@@ -88,7 +116,21 @@ pub fn verdict_call(listing: &[u8], code: u32, answer: &[u8]) -> Called {
 
 /// `desterlin_lookup`, given what the answer buffer holds before.
 pub fn lookup_call(listing: &[u8], question: Question, answer: &[u8]) -> Called {
-    let (row, place) = match lookup(listing, question) {
+    looked_up(lookup(listing, question), answer)
+}
+
+/// `desterlin_lookup_columns`, given what the answer buffer holds before.
+pub fn lookup_columns_call(
+    listing: &[u8],
+    columns: &Columns,
+    question: Question,
+    answer: &[u8],
+) -> Called {
+    looked_up(lookup_columns(listing, columns, question), answer)
+}
+
+fn looked_up(outcome: Result<Option<u32>, Refusal>, answer: &[u8]) -> Called {
+    let (row, place) = match outcome {
         Ok(row) => (row.unwrap_or(NONE), ACCEPTED),
         Err(refusal) => (NONE, refusal),
     };
@@ -108,4 +150,14 @@ pub fn write_call(parts: &Parts, listing: &[u8], answer: &[u8]) -> WriteCalled {
         listing[..written.len()].copy_from_slice(&written);
     }
     WriteCalled { returned: called.returned, answer: called.answer, listing }
+}
+
+/// `desterlin_fill`, given what all its buffers hold before.
+pub fn fill_call(listing: &[u8], columns: &Columns, answer: &[u8]) -> FillCalled {
+    let outcome = fill(listing, columns);
+    let Refusal { number, table, row } = outcome.as_ref().err().copied().unwrap_or(ACCEPTED);
+    let called = answered(answer, &[number, table, row]);
+    let filled = outcome.ok().filter(|_| called.returned == 1);
+    let columns = filled.unwrap_or_else(|| columns.clone());
+    FillCalled { returned: called.returned, answer: called.answer, columns }
 }

@@ -1,9 +1,9 @@
 //! Which calls to make on a listing: reports into buffers of many lengths, all
 //! verdicts, lookups; answers that are exact, longer and too short; `work` of
-//! no octets, of a few and of all that it can use.
+//! no octets, of a few and of all that it can use. And which to make on columns.
 
-use super::{Asked, Call};
-use crate::calls::{report, Question};
+use super::{Asked, Call, Given};
+use crate::calls::{report, report_columns, rewritten, Question};
 use crate::generate::{questions, Questions, Random};
 use crate::listing::layout::{CONTENTS, TILES};
 use crate::listing::{read, Listing};
@@ -11,10 +11,11 @@ use crate::rules::WORDS_OF_A_FINDING;
 
 /// The `work` that serves 262,144 tiles at full speed.
 const FULL_WORK: usize = 2 << 20;
-/// Octets of the answers of a report, of a verdict and of a lookup.
+/// Octets of the answers of a report, of a verdict, of a lookup and of a fill.
 const REPORT_ANSWER: usize = 20;
 const VERDICT_ANSWER: usize = 20;
 const LOOKUP_ANSWER: usize = 16;
+pub const FILL_ANSWER: usize = 12;
 const FINDING: usize = 4 * WORDS_OF_A_FINDING;
 
 /// Without an index 541 takes as many steps as the square of the tiles. With
@@ -39,23 +40,56 @@ pub fn calls(seed: u64, octets: &[u8]) -> Vec<Call> {
     if tiles > TOO_MANY_TILES {
         codes = CODES_AT_SIZE.to_vec();
     }
-    choice.reports(found);
+    choice.reports(Asked::Report, found);
     choice.verdicts(&codes);
-    choice.lookups(lookups, listing.as_ref());
+    choice.lookups(Asked::Lookup, lookups, listing.as_ref());
     choice.calls
+}
+
+/// The calls to make on columns, made from a seed: a fill and a report, and some
+/// of those that are made on rows too. All of them would take half as long as
+/// those on rows; over the seeds each is met.
+pub fn column_calls(seed: u64, given: Given) -> Vec<Call> {
+    // Lookups ask for the tiles that the columns spell, where they spell any.
+    let spelled = rewritten(given.listing, given.columns);
+    let judged = spelled.as_deref().ok().filter(|l| read(l).is_ok()).unwrap_or(given.listing);
+    let listing = read(judged).ok();
+    let tiles = listing.map_or(0, |listing| listing.count(TILES));
+    // Another stream of numbers than those of the calls on rows.
+    let mut choice = Choice { random: Random::new(seed ^ (1 << 61)), tiles, calls: Vec::new() };
+    let found = report_columns(given.listing, given.columns).map_or(0, |findings| findings.len());
+    let work = choice.work();
+    choice.call(Asked::Fill, 0, 0, FILL_ANSWER);
+    choice.call(Asked::ReportColumns, found * FINDING, work, REPORT_ANSWER);
+    let always = choice.calls.split_off(0);
+    choice.fills();
+    choice.reports(Asked::ReportColumns, found);
+    choice.lookups(Asked::LookupColumns, questions(seed, judged).lookups, listing.as_ref());
+    let Choice { mut random, calls, .. } = choice;
+    let once_in = if tiles > TOO_MANY_TILES { 12 } else { 4 };
+    let some = calls.into_iter().filter(|_| random.once_in(once_in));
+    always.into_iter().chain(some).collect()
 }
 
 /// Calls that come to little beside reading the listing, made from a seed: for
 /// listings of more text than can be judged, and for those that are many.
 pub fn reader_calls(seed: u64) -> Vec<Call> {
     let mut choice = Choice { random: Random::new(seed), tiles: 0, calls: Vec::new() };
-    let question = Question { contents_row: u32::MAX, zoom: 0, column: 0, row: 0 };
-    choice.call(Asked::Lookup(question), 0, 0, LOOKUP_ANSWER);
+    choice.call(Asked::Lookup(NO_CONTENTS_ROW), 0, 0, LOOKUP_ANSWER);
     // 171 looks at the contents alone; 542 is no code.
     choice.call(Asked::Verdict(171), 0, 0, VERDICT_ANSWER);
     choice.call(Asked::Verdict(542), 0, 0, VERDICT_ANSWER);
     choice.calls
 }
+
+/// The same on columns.
+pub fn column_reader_calls(seed: u64) -> Vec<Call> {
+    let mut choice = Choice { random: Random::new(seed), tiles: 0, calls: Vec::new() };
+    choice.call(Asked::LookupColumns(NO_CONTENTS_ROW), 0, 0, LOOKUP_ANSWER);
+    choice.calls
+}
+
+const NO_CONTENTS_ROW: Question = Question { contents_row: u32::MAX, zoom: 0, column: 0, row: 0 };
 
 struct Choice {
     random: Random,
@@ -83,16 +117,25 @@ impl Choice {
         self.calls.extend(works.into_iter().map(call));
     }
 
-    fn reports(&mut self, found: usize) {
+    fn fills(&mut self) {
+        let longer = self.long_enough(FILL_ANSWER);
+        let too_short = self.too_short(FILL_ANSWER);
+        for answer in too_short.into_iter().chain([longer]) {
+            self.call(Asked::Fill, 0, 0, answer);
+        }
+    }
+
+    /// Reports by rows or by columns, as asked.
+    fn reports(&mut self, asked: Asked, found: usize) {
         let exact = found * FINDING;
-        self.call_with_each_work(Asked::Report, exact, REPORT_ANSWER);
+        self.call_with_each_work(asked, exact, REPORT_ANSWER);
         for findings in self.findings_lengths(exact) {
             let (work, answer) = (self.work(), self.long_enough(REPORT_ANSWER));
-            self.call(Asked::Report, findings, work, answer);
+            self.call(asked, findings, work, answer);
         }
         for answer in self.too_short(REPORT_ANSWER) {
             let work = self.work();
-            self.call(Asked::Report, exact, work, answer);
+            self.call(asked, exact, work, answer);
         }
     }
 
@@ -110,19 +153,25 @@ impl Choice {
         }
     }
 
-    fn lookups(&mut self, mut lookups: Vec<Question>, listing: Option<&Listing>) {
-        let asked = lookups[0];
+    /// Lookups by rows or by columns, as asked.
+    fn lookups(
+        &mut self,
+        asked: fn(Question) -> Asked,
+        mut lookups: Vec<Question>,
+        listing: Option<&Listing>,
+    ) {
+        let first = lookups[0];
         if let Some(listing) = listing {
             lookups.extend(existing(listing));
             lookups.extend(refused(listing));
         }
-        lookups.push(self.extreme(asked));
+        lookups.push(self.extreme(first));
         for question in lookups {
             let answer = self.long_enough(LOOKUP_ANSWER);
-            self.call(Asked::Lookup(question), 0, 0, answer);
+            self.call(asked(question), 0, 0, answer);
         }
         for answer in self.too_short(LOOKUP_ANSWER) {
-            self.call(Asked::Lookup(asked), 0, 0, answer);
+            self.call(asked(first), 0, 0, answer);
         }
     }
 
@@ -171,9 +220,9 @@ impl Choice {
     }
 
     /// A lookup whose numbers are as far out as numbers go.
-    fn extreme(&mut self, asked: Question) -> Question {
+    fn extreme(&mut self, question: Question) -> Question {
         let mut far = || self.random.pick(&[i64::MIN, i64::MAX, -1, 1 << 32]);
-        Question { zoom: far(), column: far(), row: far(), ..asked }
+        Question { zoom: far(), column: far(), row: far(), ..question }
     }
 }
 

@@ -1,16 +1,19 @@
 //! Cases for the comparison with the proved library: the calls to make on a
-//! listing or with parts, and what each of them must return and leave in its
-//! buffers.
+//! listing, on one with columns or with parts, and what each of them must return
+//! and leave in its buffers.
 
 mod choice;
 mod stream;
 mod writes;
 
-pub use choice::{calls, reader_calls};
+pub use choice::{calls, column_calls, column_reader_calls, reader_calls, FILL_ANSWER};
 pub use stream::{write_limits, write_seeds, write_texts};
 pub use writes::{few_writes, writes, WriteCall, WRITE_ANSWER};
 
-use crate::calls::{lookup_call, report_call, verdict_call, Called, Question};
+use crate::calls::{fill_call, lookup_columns_call, report_columns_call, rewritten};
+use crate::calls::{lookup_call, report_call, verdict_call};
+use crate::calls::{Called, Columns, FillCalled, Question, ReportCalled, COLUMN_COUNT};
+use crate::generate::ColumnsCase;
 use crate::listing::read;
 use crate::rules::code_named;
 
@@ -20,6 +23,30 @@ pub enum Asked {
     Report,
     Verdict(u32),
     Lookup(Question),
+    Fill,
+    ReportColumns,
+    LookupColumns(Question),
+}
+
+static NO_COLUMNS: Columns = [const { Vec::new() }; COLUMN_COUNT];
+
+/// What a call is given: a listing, and the columns of its tiles. A fill is lent
+/// columns of the same lengths.
+#[derive(Clone, Copy, Debug)]
+pub struct Given<'a> {
+    pub listing: &'a [u8],
+    pub columns: &'a Columns,
+}
+
+impl<'a> Given<'a> {
+    pub fn of(case: &'a ColumnsCase) -> Given<'a> {
+        Given { listing: &case.listing, columns: &case.columns }
+    }
+
+    /// A listing without columns.
+    pub fn alone(listing: &'a [u8]) -> Given<'a> {
+        Given { listing, columns: &NO_COLUMNS }
+    }
 }
 
 /// A call: what it asks, and the lengths and first octets of its buffers. A
@@ -37,7 +64,8 @@ pub struct Call {
 #[derive(Clone, Debug, PartialEq, Eq)]
 pub struct Expected {
     pub returned: u32,
-    /// The findings of a report, or the buffer that a write is lent.
+    /// The findings of a report, the buffer that a write is lent, or the columns
+    /// of a fill one after the other.
     pub output: Vec<u8>,
     pub answer: Vec<u8>,
     /// Must `work` keep its octets? An accepted call leaves them open.
@@ -51,28 +79,44 @@ pub fn filled(length: usize, fill: u8) -> Vec<u8> {
 }
 
 impl Call {
-    /// What must come of the call on a listing.
-    pub fn expected(&self, listing: &[u8]) -> Expected {
+    /// What must come of the call.
+    pub fn expected(&self, given: Given) -> Expected {
+        let Given { listing, columns } = given;
         let findings = filled(self.findings, self.fill);
         let answer = filled(self.answer, self.fill);
-        let (Called { returned, answer }, output) = match self.asked {
-            Asked::Report => {
-                let called = report_call(listing, &findings, &answer);
-                (Called { returned: called.returned, answer: called.answer }, called.findings)
+        let reported = |called: ReportCalled| (called.returned, called.answer, called.findings);
+        let answered = |called: Called| (called.returned, called.answer, findings.clone());
+        let (returned, answer, output) = match self.asked {
+            Asked::Report => reported(report_call(listing, &findings, &answer)),
+            Asked::Verdict(code) => answered(verdict_call(listing, code, &answer)),
+            Asked::Lookup(question) => answered(lookup_call(listing, question, &answer)),
+            Asked::Fill => self.expected_of_fill(given, &answer),
+            Asked::ReportColumns => {
+                reported(report_columns_call(listing, columns, &findings, &answer))
             }
-            Asked::Verdict(code) => (verdict_call(listing, code, &answer), findings),
-            Asked::Lookup(question) => (lookup_call(listing, question, &answer), findings),
+            Asked::LookupColumns(question) => {
+                answered(lookup_columns_call(listing, columns, question, &answer))
+            }
         };
-        let keeps_work = returned == 0 || self.is_refused_before_work(listing);
+        let keeps_work = returned == 0 || self.is_refused_before_work(given);
         Expected { returned, output, answer, keeps_work }
     }
 
+    fn expected_of_fill(&self, given: Given, answer: &[u8]) -> (u32, Vec<u8>, Vec<u8>) {
+        let before = given.columns.each_ref().map(|column| filled(column.len(), self.fill));
+        let FillCalled { returned, answer, columns } = fill_call(given.listing, &before, answer);
+        (returned, answer, columns.concat())
+    }
+
     /// Is the call refused? Only for the calls that have `work`.
-    fn is_refused_before_work(&self, listing: &[u8]) -> bool {
+    fn is_refused_before_work(&self, given: Given) -> bool {
         match self.asked {
-            Asked::Report => read(listing).is_err(),
-            Asked::Verdict(code) => code_named(code).is_none() || read(listing).is_err(),
-            Asked::Lookup(_) => false,
+            Asked::Report => read(given.listing).is_err(),
+            Asked::Verdict(code) => code_named(code).is_none() || read(given.listing).is_err(),
+            Asked::ReportColumns => {
+                rewritten(given.listing, given.columns).map_or(true, |l| read(&l).is_err())
+            }
+            Asked::Lookup(_) | Asked::Fill | Asked::LookupColumns(_) => false,
         }
     }
 }

@@ -4,22 +4,26 @@
 //! Numbers are little-endian. "Octets" are a u32, how many, and then they
 //! themselves.
 //!
-//! * the mark: `cases 2` and a line feed, eight octets;
-//! * for each listing, and for each seven parts: u32, how many strings of
-//!   octets are given, 1 or 7; octets, the commands that make them, in words;
-//!   the strings, octets each; u32, how many calls; the calls;
+//! * the mark: `cases 3` and a line feed, eight octets;
+//! * for each listing, for each listing with its four columns, and for each seven
+//!   parts: u32, how many strings of octets are given, 1, 5 or 7; octets, the
+//!   commands that make them, in words; the strings, octets each; u32, how many
+//!   calls; the calls;
 //! * the end: u32 0; u32, how many of these there were; u32, how many calls.
 //!
 //! A call:
 //!
-//! * u32, what it asks: 1 report, 2 verdict, 3 lookup, and with parts 4 write;
+//! * u32, what it asks: 1 report, 2 verdict, 3 lookup; with parts 4 write; with
+//!   columns 5 fill, 6 report, 7 lookup;
 //! * u32, the code of a verdict or the contents row of a lookup, else 0;
 //! * three i64, zoom, column and row of a lookup, else 0;
 //! * three u32, the lengths of output, work and answer, where output is the
-//!   findings of a report or the listing of a write; 0 where the call has no
-//!   such buffer;
+//!   findings of a report, the listing of a write or the columns of a fill one
+//!   after the other, each as long as it is given; 0 where the call has no such
+//!   buffer;
 //! * u32, the fill: before the call the octet number i of each of these
-//!   buffers, counted from 0, is 37 * (i + fill) modulo 256;
+//!   buffers, and of each column of a fill, counted from 0, is 37 * (i + fill)
+//!   modulo 256;
 //! * u32, what the call must return;
 //! * u32, 1 where work must keep its octets, 0 where they are left open;
 //! * the octets of output after the call, and then of answer: as many as the
@@ -27,17 +31,19 @@
 
 use std::io::{Result, Write};
 
-use super::{calls, few_writes, reader_calls, writes, Asked, Call, Expected, WriteCall};
+use super::{calls, column_calls, column_reader_calls, few_writes, reader_calls, writes};
+use super::{Asked, Call, Expected, Given, WriteCall};
 use crate::calls::{Parts, Question};
-use crate::generate::{cut, full, generate, generate_parts, text_listing, text_numbers};
-use crate::generate::{FULL_KINDS, HOSTILE_KINDS, LIMITS};
+use crate::generate::{columns_at_a_limit, cut, full, generate, generate_columns, generate_parts};
+use crate::generate::{text_columns, text_listing, text_numbers};
+use crate::generate::{ColumnsCase, AS_FILLED, FULL_KINDS, HOSTILE_KINDS, LIMITS};
 use crate::listing::layout::TILES;
 use crate::listing::read;
 
-const MARK: &[u8; 8] = b"cases 2\n";
+const MARK: &[u8; 8] = b"cases 3\n";
 
 /// The listings of so many seeds from the first on, with their calls, and the
-/// parts of the same seeds, with their writes.
+/// parts and the columns of the same seeds, with theirs.
 pub fn write_seeds(out: impl Write, first: u64, count: u64) -> Result<()> {
     let mut stream = Stream::begun(out)?;
     for seed in first..first.saturating_add(count) {
@@ -46,6 +52,7 @@ pub fn write_seeds(out: impl Write, first: u64, count: u64) -> Result<()> {
         stream.listing(&origin, &case.listing, &calls(seed, &case.listing))?;
         let parts = generate_parts(seed).parts;
         stream.parts(&format!("parts {seed}"), &parts, &writes(seed, &parts))?;
+        stream.columns(&origin, seed, case.listing)?;
     }
     stream.ended()
 }
@@ -58,38 +65,45 @@ const TILES_OF_A_FULL_LISTING: usize = 32_768;
 const TILES_OF_A_HOSTILE_LISTING: usize = 500;
 
 /// The listings at the limits and the full ones, with their calls, as far as
-/// they have no more tiles than these; and each cut into its parts. The hostile
-/// ones are judged at a small size and no more than read at their full one.
+/// they have no more tiles than these; each cut into its parts, and with columns,
+/// but for limits other than that of the tiles. The hostile ones are judged at a
+/// small size and no more than read at their full one.
 pub fn write_limits(out: impl Write, most_tiles: usize) -> Result<()> {
     let mut stream = Stream::begun(out)?;
     for (number, (_, make)) in LIMITS.iter().enumerate() {
         let listing = make();
         let tiles = read(&listing).map_or(0, |listing| listing.count(TILES));
         if tiles <= most_tiles {
-            stream.listing_and_parts(&format!("limit {number}"), number as u64, &listing)?;
+            let origin = format!("limit {number}");
+            stream.listing_and_parts(&origin, number as u64, &listing)?;
+            if let Some(seed) = columns_at_a_limit(&listing) {
+                stream.columns(&origin, seed, listing)?;
+            }
         }
     }
-    let tiles = most_tiles.min(TILES_OF_A_FULL_LISTING);
-    for kind in FULL_KINDS {
-        let listing = full(kind, tiles).unwrap_or_default();
-        stream.listing_and_parts(&format!("full {kind} {tiles}"), tiles as u64, &listing)?;
+    for (turn, kind) in (0..).zip(FULL_KINDS) {
+        stream.full(kind, most_tiles.min(TILES_OF_A_FULL_LISTING), turn)?;
     }
-    for kind in HOSTILE_KINDS {
-        let tiles = most_tiles.min(TILES_OF_A_HOSTILE_LISTING);
-        let listing = full(kind, tiles).unwrap_or_default();
-        stream.listing_and_parts(&format!("full {kind} {tiles}"), tiles as u64, &listing)?;
+    for (turn, kind) in (0..).zip(HOSTILE_KINDS) {
+        stream.full(kind, most_tiles.min(TILES_OF_A_HOSTILE_LISTING), turn)?;
         let listing = full(kind, most_tiles).unwrap_or_default();
         stream.reads(&format!("full {kind} {most_tiles}"), most_tiles as u64, &listing)?;
+        let tiles = most_tiles.min(TILES_OF_A_FULL_LISTING);
+        let case = generate_columns(AS_FILLED, full(kind, tiles).unwrap_or_default());
+        let origin = format!("full {kind} {tiles} | second columns {AS_FILLED}");
+        stream.with_columns(&origin, &case, |_| column_reader_calls(turn))?;
     }
     stream.ended()
 }
 
 /// The listings of the series of texts, and behind it of so many seeds from the
-/// first on, each read, and written from its parts.
+/// first on, each read, written from its parts, and read from columns.
 pub fn write_texts(out: impl Write, first: u64, count: u64) -> Result<()> {
     let mut stream = Stream::begun(out)?;
     for number in text_numbers(first, count) {
         stream.reads(&format!("text {number}"), number, &text_listing(number))?;
+        let origin = format!("text-columns {number}");
+        stream.with_columns(&origin, &text_columns(number), |_| column_reader_calls(number))?;
     }
     stream.ended()
 }
@@ -112,7 +126,8 @@ impl<W: Write> Stream<W> {
         self.out.flush()
     }
 
-    /// What some calls are given to read: a listing, or seven parts.
+    /// What some calls are given: a listing, with columns or without, or seven
+    /// parts.
     fn given(&mut self, origin: &str, strings: &[&[u8]], calls: usize) -> Result<()> {
         self.words(&[strings.len() as u32])?;
         self.octets(origin.as_bytes())?;
@@ -125,7 +140,27 @@ impl<W: Write> Stream<W> {
 
     fn listing(&mut self, origin: &str, listing: &[u8], calls: &[Call]) -> Result<()> {
         self.given(origin, &[listing], calls.len())?;
-        calls.iter().try_for_each(|call| self.call(call, listing))
+        calls.iter().try_for_each(|call| self.call(call, Given::alone(listing)))
+    }
+
+    fn with_columns(
+        &mut self,
+        origin: &str,
+        case: &ColumnsCase,
+        calls: impl FnOnce(Given) -> Vec<Call>,
+    ) -> Result<()> {
+        let given = Given::of(case);
+        let calls = calls(given);
+        let columns = case.columns.each_ref().map(Vec::as_slice);
+        self.given(origin, &[&[given.listing][..], &columns].concat(), calls.len())?;
+        calls.iter().try_for_each(|call| self.call(call, given))
+    }
+
+    /// The columns of a seed for a listing.
+    fn columns(&mut self, origin: &str, seed: u64, listing: Vec<u8>) -> Result<()> {
+        let case = generate_columns(seed, listing);
+        let origin = format!("{origin} | second columns {seed}");
+        self.with_columns(&origin, &case, |given| column_calls(seed, given))
     }
 
     fn parts(&mut self, origin: &str, parts: &Parts, calls: &[WriteCall]) -> Result<()> {
@@ -139,6 +174,14 @@ impl<W: Write> Stream<W> {
         self.parts(&format!("{origin} | second cut"), &parts, &writes(seed, &parts))
     }
 
+    /// A full listing, its parts, and its columns by its turn.
+    fn full(&mut self, kind: &str, tiles: usize, turn: u64) -> Result<()> {
+        let listing = full(kind, tiles).unwrap_or_default();
+        let origin = format!("full {kind} {tiles}");
+        self.listing_and_parts(&origin, tiles as u64, &listing)?;
+        self.columns(&origin, turn, listing)
+    }
+
     /// A listing and its parts, with the calls that do little but read it.
     fn reads(&mut self, origin: &str, seed: u64, listing: &[u8]) -> Result<()> {
         self.listing(origin, listing, &reader_calls(seed))?;
@@ -146,18 +189,21 @@ impl<W: Write> Stream<W> {
         self.parts(&format!("{origin} | second cut"), &parts, &few_writes(seed, &parts))
     }
 
-    fn call(&mut self, call: &Call, listing: &[u8]) -> Result<()> {
+    fn call(&mut self, call: &Call, given: Given) -> Result<()> {
         let nothing = Question { contents_row: 0, zoom: 0, column: 0, row: 0 };
         let (kind, number, address) = match call.asked {
             Asked::Report => (1, 0, nothing),
             Asked::Verdict(code) => (2, code, nothing),
             Asked::Lookup(question) => (3, question.contents_row, question),
+            Asked::Fill => (5, 0, nothing),
+            Asked::ReportColumns => (6, 0, nothing),
+            Asked::LookupColumns(question) => (7, question.contents_row, question),
         };
         self.words(&[kind, number])?;
         for number in [address.zoom, address.column, address.row] {
             self.out.write_all(&number.to_le_bytes())?;
         }
-        self.buffers(call.work, call.fill, &call.expected(listing))
+        self.buffers(call.work, call.fill, &call.expected(given))
     }
 
     fn write(&mut self, call: &WriteCall, parts: &Parts) -> Result<()> {

@@ -1,8 +1,9 @@
 //! What the made listings reach: every code found and not found, both ways to
 //! pass 451 and 452, every refusal given and not given, texts on both sides of
-//! 13, every kind of listing; and what the made parts reach. And how long judging
-//! takes.
+//! 13, every kind of listing; and what the made parts and columns reach. And how
+//! long judging takes.
 
+mod columns;
 mod spans;
 mod utf8;
 mod writes;
@@ -11,10 +12,12 @@ use std::fmt;
 use std::time::Instant;
 
 use crate::calls::{lookup, report, verdict, Question};
-use crate::generate::{cut, generate, generate_parts, kind_names, questions};
+use crate::generate::{columns_at_a_limit, cut, generate, generate_columns, generate_parts};
+use crate::generate::{kind_names, questions};
 use crate::generate::{text_listing, text_numbers, PartsCase, LIMITS};
 use crate::listing::{read, Refusal, NONE};
 use crate::rules::{Finding, CODES};
+use columns::Columns;
 use spans::Spans;
 use utf8::Utf8;
 use writes::Writes;
@@ -57,6 +60,7 @@ pub struct Table {
     lookups: Line,
     kinds: Vec<Line>,
     writes: Writes,
+    columns: Columns,
 }
 
 const CODES_WITHOUT_ROW: [u32; 3] = [111, 112, 113];
@@ -64,8 +68,9 @@ const CODES_WITHOUT_ROW: [u32; 3] = [111, 112, 113];
 const OF_A_LISTING: [u32; 9] = [1, 2, 3, 4, 5, 6, 7, 8, 13];
 const OF_A_CALL: [u32; 2] = [9, 10];
 
-/// Makes the listings and parts of so many seeds, the listings at the limits, and
-/// those of the series of texts and of so many seeds behind it, and counts.
+/// Makes the listings, parts and columns of so many seeds, those at the limits,
+/// and the listings of the series of texts and of so many seeds behind it, and
+/// counts.
 pub fn table(first: u64, count: u64) -> Table {
     let mut table = Table::new();
     for seed in first..first.saturating_add(count) {
@@ -79,11 +84,15 @@ pub fn table(first: u64, count: u64) -> Table {
             table.count_lookup(&case.listing, question);
         }
         table.writes.count(seed, &generate_parts(seed));
+        table.columns.count(seed, &generate_columns(seed, case.listing));
     }
     for (number, (kind, make)) in (0..).zip(&LIMITS) {
         let listing = make();
         table.count_listing(kind, &listing);
         let parts = cut(&listing);
+        if let Some(seed) = columns_at_a_limit(&listing) {
+            table.columns.count(seed, &generate_columns(seed, listing.clone()));
+        }
         table.writes.count(number, &PartsCase { kind, parts, listing: Some(listing) });
     }
     for number in text_numbers(first, count) {
@@ -118,6 +127,7 @@ impl Table {
             lookups: Line::new("lookups with a tile"),
             kinds: kind_names().chain(limits).map(kind_line).collect(),
             writes: Writes::new(),
+            columns: Columns::new(),
         }
     }
 
@@ -189,7 +199,8 @@ impl Table {
         let counted = self.codes.iter().chain(self.spans.lines()).chain(&self.without_row);
         let refusals = self.refusals.iter().map(|(_, line)| line).chain(self.utf8.lines());
         let counted = counted.chain(&self.untestable).chain(refusals);
-        counted.chain([&self.lookups]).chain(&self.kinds).chain(self.writes.lines())
+        let counted = counted.chain([&self.lookups]).chain(&self.kinds);
+        counted.chain(self.writes.lines()).chain(self.columns.lines())
     }
 
     /// The lines on which a count is 0 that must not be.
@@ -209,12 +220,12 @@ fn kind_line(name: &str) -> Line {
 
 impl fmt::Display for Table {
     fn fmt(&self, out: &mut fmt::Formatter<'_>) -> fmt::Result {
-        writeln!(out, "{:<40} {:>8} {:>8}", "", "have", "lack")?;
+        writeln!(out, "{:<48} {:>8} {:>8}", "", "have", "lack")?;
         for line in self.lines() {
             let (name, have) = (&line.name, line.have);
             match line.may_lack_none {
-                true => writeln!(out, "{name:<40} {have:>8}")?,
-                false => writeln!(out, "{name:<40} {have:>8} {:>8}", line.lack)?,
+                true => writeln!(out, "{name:<48} {have:>8}")?,
+                false => writeln!(out, "{name:<48} {have:>8} {:>8}", line.lack)?,
             }
         }
         for name in self.empty_lines() {

@@ -1,7 +1,9 @@
 //! A maker of listings to judge: good ones, ones with planted faults, ones in
 //! which everything collides, damaged ones, and ones at the limits of size; and
-//! of parts to write listings from. All are made from a seed alone.
+//! of parts to write listings from, and columns to lend with them. All are made
+//! from a seed alone.
 
+mod columns;
 mod damage;
 mod dense;
 mod edges;
@@ -19,6 +21,8 @@ mod spans;
 mod texts;
 mod utf8;
 
+pub use columns::{columns_at_a_limit, generate_columns, ColumnsCase, AS_FILLED};
+pub use columns::{columns_kind_names, columns_of, moved_to_columns};
 pub use full::{full, FULL_KINDS};
 pub use hostile::{hostile, HOSTILE_KINDS};
 pub use limits::LIMITS;
@@ -27,7 +31,7 @@ pub use questions::{questions, Questions};
 pub use random::Random;
 #[cfg(test)]
 pub(crate) use spans::wild_axis;
-pub use texts::{one_text, text_listing, text_numbers, OneText, SERIES};
+pub use texts::{one_text, text_columns, text_listing, text_numbers, OneText, SERIES};
 pub(crate) use utf8::CHARACTERS;
 
 use crate::make::Draft;

@@ -141,7 +141,7 @@ fn above_most(random: &mut Random, parts: &mut Parts) {
 }
 
 /// Any row of a part, often the first or the last, if it has rows.
-fn any_row(random: &mut Random, part: &[u8], row_size: usize) -> Option<usize> {
+pub fn any_row(random: &mut Random, part: &[u8], row_size: usize) -> Option<usize> {
     let last = (part.len() / row_size).checked_sub(1)?;
     let any = random.below(last + 1);
     Some(random.pick(&[0, last, any]))

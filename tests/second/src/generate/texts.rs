@@ -1,11 +1,11 @@
 //! A series of listings with one text each beside the empty ones: every text of
 //! up to four octets at the ends of the ranges of Table 3-7 and one beyond, by
 //! itself and between others. Behind the series come listings of many texts, each
-//! from a seed.
+//! from a seed. Their tiles may stand in columns.
 
-use super::one_of_characters;
+use super::{moved_to_columns, one_of_characters, ColumnsCase};
 use crate::calls::{put_together, Parts};
-use crate::listing::layout::{NAMES, SHAPES};
+use crate::listing::layout::{NAMES, SHAPES, TILES};
 use crate::make::set_u32;
 
 /// The ends of the ranges for a first octet, and one beyond each.
@@ -31,6 +31,16 @@ pub fn text_listing(number: u64) -> Vec<u8> {
     }
 }
 
+/// The same with the tiles in columns alone: of the series each text is the name
+/// of the one tile there.
+pub fn text_columns(number: u64) -> ColumnsCase {
+    let listing = match number < SERIES {
+        true => put_together(&one_text_in(number, (TILES, 0)).parts),
+        false => text_listing(number),
+    };
+    moved_to_columns(listing)
+}
+
 /// The numbers of the series, and of so many seeds from the first on.
 pub fn text_numbers(first: u64, count: u64) -> impl Iterator<Item = u64> {
     let behind = SERIES.saturating_add(first);
@@ -43,17 +53,30 @@ pub struct OneText {
     pub text: Vec<u8>,
 }
 
+/// A text field: its table, and where it stands in a row.
+type Field = (usize, usize);
+
 /// The listing of a number of the series. They take turns in the field that the
 /// text is in, and in what stands around it.
 pub fn one_text(number: u64) -> OneText {
-    let turn = number as usize / 2;
+    let fields_of = |table: usize| SHAPES[table - 1].texts.iter().map(move |t| (table, t.at));
+    let fields: Vec<Field> = (1..NAMES).flat_map(fields_of).collect();
+    one_text_in(number, fields[turn(number) % fields.len()])
+}
+
+fn turn(number: u64) -> usize {
+    number as usize / 2
+}
+
+fn one_text_in(number: u64, field: Field) -> OneText {
+    let turn = turn(number);
     let octets = text(turn);
     if number % 2 == 0 {
         // By itself, between octets that would go on with it.
-        return in_a_field(turn, &[0xe1, 0x80][..turn % 3], octets, &[0x80; 3]);
+        return in_a_field(field, &[0xe1, 0x80][..turn % 3], octets, &[0x80; 3]);
     }
     let text = [&b"a".repeat(turn % 19), octets.as_slice(), &b"zzzzz"[..turn % 6]].concat();
-    in_a_field(turn, b"", text, b"")
+    in_a_field(field, b"", text, b"")
 }
 
 /// The text at a place of the series: the shorter ones come first.
@@ -73,12 +96,9 @@ fn text(mut at: usize) -> Vec<u8> {
     chosen.collect()
 }
 
-/// One row in each table, of zeros but for this text, in a field by its turn.
-fn in_a_field(turn: usize, before: &[u8], text: Vec<u8>, after: &[u8]) -> OneText {
+/// One row in each table, of zeros but for this text in its field.
+fn in_a_field((table, at): Field, before: &[u8], text: Vec<u8>, after: &[u8]) -> OneText {
     let mut parts = SHAPES.map(|shape| vec![0; shape.row_size]);
-    let fields_of = |table: usize| SHAPES[table - 1].texts.iter().map(move |t| (table, t.at));
-    let fields: Vec<(usize, usize)> = (1..NAMES).flat_map(fields_of).collect();
-    let (table, at) = fields[turn % fields.len()];
     set_u32(&mut parts[table - 1], at, before.len() as u32);
     set_u32(&mut parts[table - 1], at + 4, text.len() as u32);
     parts[NAMES - 1] = [before, &text, after].concat();

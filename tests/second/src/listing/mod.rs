@@ -26,6 +26,7 @@ impl<'a> Listing<'a> {
     }
 
     /// The octets of one table, numbered 1 to 7 as in the paper.
+    #[inline]
     pub fn table(&self, number: usize) -> &'a [u8] {
         self.tables[number - 1]
     }

@@ -39,6 +39,7 @@ impl<'a> LatePlaces<'a> {
     }
 
     /// The number of a name, from the book where its place is not known.
+    #[inline]
     pub fn enter(&mut self, book: &mut NameBook<'a>, name: &'a [u8]) -> NameId {
         let place = stir(name.as_ptr() as u64, name.len() as u64);
         let slot = &mut self.slots[settle(place) as usize % LATE_PLACES];

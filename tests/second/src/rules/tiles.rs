@@ -111,6 +111,9 @@ impl<'j, 'a> Addresses<'j, 'a> {
         }
     }
 
+    // bench/run times a report: that this, the names' numbers and the tables are
+    // inlined must not hang on code that has nothing to do with them.
+    #[inline]
     fn hash(&self, row: usize) -> u64 {
         let fields = [ZOOM, COLUMN, ROW].map(|field| number(&self.listing, row, field) as u64);
         settle(fields.into_iter().fold(u64::from(self.names[row]), stir))

@@ -17,7 +17,7 @@ pub fn check(tally: &mut Tally) {
 }
 
 /// Words in octets, and what follows them.
-fn octets(words: &[u32], after: &[u8]) -> Vec<u8> {
+pub fn octets(words: &[u32], after: &[u8]) -> Vec<u8> {
     let mut octets: Vec<u8> = words.iter().flat_map(|word| word.to_le_bytes()).collect();
     octets.extend_from_slice(after);
     octets

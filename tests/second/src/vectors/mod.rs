@@ -8,6 +8,7 @@
 
 mod base;
 mod calls;
+mod columns;
 mod contents;
 mod extensions;
 mod far;
@@ -31,8 +32,9 @@ use std::path::PathBuf;
 
 use crate::calls::{report, verdict, Verdict};
 use crate::desk::{refused, row_or_dash};
-use crate::listing::NONE;
+use crate::listing::{Refusal, NONE};
 use crate::make::Draft;
+use crate::rules::Finding;
 
 /// How the vectors went.
 #[derive(Default)]
@@ -66,6 +68,7 @@ pub fn run(samples: PathBuf) -> Tally {
     calls::check(&mut tally);
     writes::check(&mut tally);
     utf8::check(&mut tally);
+    columns::check(&mut tally);
     samples::check(&mut tally, &samples);
     tally
 }
@@ -118,7 +121,11 @@ impl Tally {
 }
 
 fn report_as_text(octets: &[u8]) -> String {
-    let findings = match report(octets) {
+    findings_as_text(report(octets))
+}
+
+fn findings_as_text(outcome: Result<Vec<Finding>, Refusal>) -> String {
+    let findings = match outcome {
         Ok(findings) => findings,
         Err(refusal) => return refused(refusal),
     };

@@ -5,6 +5,7 @@ use std::path::Path;
 
 use super::base::header_alone;
 use super::Tally;
+use crate::calls::report;
 use crate::desk::{printed, printed_in_full};
 use crate::samples::samples;
 
@@ -35,7 +36,7 @@ fn check_edges(tally: &mut Tally) {
     let longer = vec![0; 65_537];
     let got = printed(&longer);
     tally.same("65,537 octets are oversize", got.as_str(), "oversize\n");
-    let got = printed_in_full(&longer);
+    let got = printed_in_full(report(&longer));
     tally.same("judged in full all the same", got.as_str(), "refused 3 0 0\n");
     let too_long = vec![0; 9_762_881];
     let got = printed(&too_long);
@@ -44,6 +45,6 @@ fn check_edges(tally: &mut Tally) {
     let many = many.map(|sample| sample.listing).unwrap_or_default();
     let lines = |text: String| text.lines().count();
     tally.same("1,365 findings and a total", lines(printed(&many)), 1_366);
-    let in_full = lines(printed_in_full(&many));
+    let in_full = lines(printed_in_full(report(&many)));
     tally.same("1,401 findings and a total", in_full, 1_402);
 }
