@@ -23,8 +23,7 @@ static void put(uint8_t *octets, uint64_t value, size_t count)
         octets[i] = (uint8_t)(value >> 8 * i);
 }
 
-/* Numbers at which a reader that is wrong by one, or that wraps, goes wrong. */
-static uint64_t telling_number(struct chance *chance, size_t size)
+uint64_t telling_number(struct chance *chance, size_t size)
 {
     const uint64_t numbers[] = {
         0, 1, 2, 63, 64, 65, 255, 256, 257, 4095, 4096, 4097, size - 1, size, size + 1,

@@ -1,6 +1,7 @@
 /*
- * Damaged listings through report, verdict and lookup, and their parts through write (fuzz_write.h), to see that each call
- * keeps its promises about the buffers that it is lent (fuzz_lent.h).
+ * Damaged listings through report, verdict and lookup, their tiles through the calls on columns (fuzz_columns.h) and
+ * their parts through write (fuzz_write.h), to see that each call keeps its promises about the buffers that it is lent
+ * (fuzz_lent.h).
  *
  *     fuzz COUNT SEED LISTING ..
  *
@@ -17,6 +18,7 @@
 
 #include "damage.h"
 #include "desterlin.h"
+#include "fuzz_columns.h"
 #include "fuzz_lent.h"
 #include "fuzz_write.h"
 #include "walled.h"
@@ -71,15 +73,6 @@ static struct lent lend_input(struct chance *chance)
     memcpy(original, listings.octets[which], listings.size[which]);
     size_t size = damage(chance, original, listings.size[which], sizeof original);
     return lend_octets(chance, &rooms.listing, original, size);
-}
-
-static size_t draw_work_size(struct chance *chance)
-{
-    switch (draw_below(chance, 16)) {
-    case 0: return draw_below(chance, 64) == 0 ? DESTERLIN_WORK_FULL : 0;
-    case 1: return 32768;
-    default: return draw_below(chance, 2000);
-    }
 }
 
 static int is_of_report(uint32_t number)
@@ -252,6 +245,7 @@ static void try_input(uint64_t number)
           "report: a short buffer has the first findings");
     check_verdict(&chance, listing, findings.octets, report);
     check_lookup(&chance, listing, report);
+    check_columns(&chance, listing, original, report);
     check_write(&chance, original, listing.size, report);
 
     tally.reasons[report[DESTERLIN_REPORT_NUMBER]]++;
@@ -297,6 +291,7 @@ int main(int count, char **words)
     rooms.findings = make_room(FINDINGS_ROOM);
     rooms.work = make_room(DESTERLIN_WORK_FULL);
     rooms.answer = make_room(ANSWER_ROOM);
+    make_rooms_for_columns();
     make_rooms_for_writes();
     signal(SIGSEGV, tell_input);
     signal(SIGBUS, tell_input);
@@ -306,6 +301,7 @@ int main(int count, char **words)
     for (unsigned long i = 0; i < inputs; i++)
         try_input(seed + i);
     print_tally(inputs);
+    print_columns();
     print_writes();
     for (size_t i = 0; i < listings.count; i++)
         free(listings.octets[i]);

@@ -67,6 +67,15 @@ size_t draw_answer_size(struct chance *chance, size_t whole)
     return draw_below(chance, 8) == 0 ? draw_below(chance, whole) : whole + draw_below(chance, ANSWER_ROOM - whole + 1);
 }
 
+size_t draw_work_size(struct chance *chance)
+{
+    switch (draw_below(chance, 16)) {
+    case 0: return draw_below(chance, 64) == 0 ? DESTERLIN_WORK_FULL : 0;
+    case 1: return 32768;
+    default: return draw_below(chance, 2000);
+    }
+}
+
 void check(int is_kept, const char *promise)
 {
     if (!is_kept) {
@@ -80,6 +89,7 @@ void check_place(struct lent answer, size_t at)
     uint32_t number = desterlin_word(answer.octets, at);
     uint32_t table = desterlin_word(answer.octets, at + 1), row = desterlin_word(answer.octets, at + 2);
     int has_place = (number >= DESTERLIN_REFUSED_COUNT && number <= DESTERLIN_REFUSED_FLAG)
-        || number == DESTERLIN_REFUSED_PART || number == DESTERLIN_REFUSED_UTF8;
-    check(has_place ? table >= 1 && table <= 7 : table == 0 && row == 0, "a place for reasons 5 to 8, 11 and 13 alone");
+        || number == DESTERLIN_REFUSED_PART || number == DESTERLIN_REFUSED_UTF8 || number == DESTERLIN_REFUSED_COLUMN;
+    check(has_place ? table >= 1 && table <= 7 : table == 0 && row == 0,
+          "a place for reasons 5 to 8, 11, 13 and 14 alone");
 }

@@ -42,6 +42,9 @@ int keeps_octets(struct lent lent, const uint8_t *octets);
 /* The size of an answer buffer for so many octets, seldom too short. */
 size_t draw_answer_size(struct chance *chance, size_t whole);
 
+/* The size of a workspace, most often a small one. */
+size_t draw_work_size(struct chance *chance);
+
 /* The number of the input that is tried: a message names it. */
 extern volatile uint64_t input_number;
 

@@ -2,7 +2,8 @@
  * Shows that AddressSanitizer is in the proved code: a call is told of more octets than a buffer has, or lent a buffer
  * that is no longer there, and the program must be stopped for it.
  *
- *     overrun BUFFER LISTING        BUFFER is listing, findings, work, answer or freed; the listing has a finding
+ *     overrun BUFFER LISTING        BUFFER is listing, findings, work, answer, filled (a column that is written),
+ *                                   column (one that is read) or freed; the listing has tiles and a finding
  *
  * Exit status: 0 nothing has stopped it; 2 called wrongly.
  */
@@ -20,6 +21,21 @@ static uint8_t *lend(size_t size, size_t fewer, int is_short)
     if (octets == NULL)
         exit(2);
     return octets;
+}
+
+/* Fills columns, twice, and reports from them; a short one has an octet less than the calls are told. */
+static void call_on_columns(const uint8_t *listing, size_t listing_size, int is_filled_short, int is_read_short)
+{
+    uint8_t answer[DESTERLIN_REPORT_ANSWER];
+    size_t size = DESTERLIN_COLUMN_SIZE(desterlin_word(listing, 2 * DESTERLIN_TILES));
+    uint8_t *three = lend(3 * size, 0, 0), *fourth = lend(size, 0, 0);
+    uint8_t *filled = lend(size, size - 1, is_filled_short), *read = lend(size, size - 1, is_read_short);
+#define THREE three, size, three + size, size, three + 2 * size, size
+    desterlin_fill(listing, listing_size, THREE, fourth, size, answer, sizeof answer);
+    desterlin_fill(listing, listing_size, THREE, filled, size, answer, sizeof answer);
+    memcpy(read, fourth, is_read_short ? size - 1 : size);
+    desterlin_report_columns(listing, listing_size, THREE, read, size, NULL, 0, NULL, 0, answer, sizeof answer);
+#undef THREE
 }
 
 int main(int count, char **words)
@@ -40,6 +56,7 @@ int main(int count, char **words)
     uint8_t *work = lend(DESTERLIN_WORK_FULL, 1, strcmp(name, "work") == 0);
     uint8_t *answer = lend(DESTERLIN_REPORT_ANSWER, DESTERLIN_REPORT_ANSWER - 1, strcmp(name, "answer") == 0);
     memcpy(listing, read, is_listing_short ? size - 1 : size);
+    call_on_columns(read, size, strcmp(name, "filled") == 0, strcmp(name, "column") == 0);
     if (strcmp(name, "freed") == 0)
         free(listing);
     desterlin_report(listing, size, findings, DESTERLIN_FINDING, work, DESTERLIN_WORK_FULL, answer,

@@ -21,12 +21,15 @@ from typing import Dict, List, Optional, Sequence, Tuple
 
 ROOT = Path(__file__).resolve().parents[2]
 TOOLS = ROOT / "tools"
+TESTS = ROOT / "tests" / "tools"
+BUILT = ROOT / "target" / "tests" / "tools"
 PACKS = ROOT / "samples" / "packs"
 SECOND = ROOT / "tests" / "second" / "target" / "release" / "second"
 
 sys.dont_write_bytecode = True
 sys.path.insert(0, str(TOOLS))
 
+from desterlin import library
 from desterlin.exporter import export
 
 Cells = Tuple[object, ...]
@@ -88,6 +91,29 @@ class Ran:
     @property
     def out(self) -> str:
         return self.octets.decode("utf-8")
+
+
+class CProgram:
+    """A program of the tests that calls the library, in C or, from the same source, in C++."""
+
+    def __init__(self, name: str, language: str, standard: str) -> None:
+        self.source = TESTS / f"{name}.c"
+        self.program = BUILT / f"{name}-{standard}"
+        compiler = os.environ.get("DESTERLIN_CC") or TOOLS / "cc-x86-64"
+        self.command = [compiler, f"-std={standard}", "-pedantic", "-Wall", "-Wextra", "-Werror", "-x", language]
+
+    def can_compile(self) -> bool:
+        source = b"#include <stdio.h>\n#include <stdlib.h>\n#include <string.h>\nint main(void) { return 0; }\n"
+        return Ran([*self.command, "-", "-x", "none", "-o", BUILT / "nothing"], source).status == 0
+
+    def compile(self) -> None:
+        """Skips the tests where this machine has no compiler for the language."""
+        BUILT.mkdir(parents=True, exist_ok=True)
+        if not self.can_compile():
+            raise unittest.SkipTest(f"there is no compiler for {self.program.name}")
+        linked = ["-x", "none", library.archive(), "-o", self.program]
+        ran = Ran([*self.command, f"-I{ROOT / 'include'}", self.source, *linked])
+        assert (ran.status, ran.err) == (0, ""), ran.err
 
 
 def loaded(name: str) -> ModuleType:

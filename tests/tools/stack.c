@@ -25,6 +25,7 @@ static uint8_t listing[DESTERLIN_LISTING_MOST];
 static uint8_t findings[1 << 20];
 static uint8_t work[DESTERLIN_WORK_FULL];
 static uint8_t written[DESTERLIN_LISTING_MOST];
+static uint8_t columns[4][DESTERLIN_COLUMN_SIZE(DESTERLIN_TILES_MOST)];
 static size_t listing_size;
 
 static void failed(const char *what)
@@ -56,6 +57,36 @@ static void *lookup(void *unused)
 {
     uint8_t answer[DESTERLIN_LOOKUP_ANSWER];
     desterlin_lookup(listing, listing_size, 0, 0, 0, 0, answer, sizeof answer);
+    return unused;
+}
+
+#define COLUMNS columns[0], sizeof columns[0], columns[1], sizeof columns[1], columns[2], sizeof columns[2], \
+    columns[3], sizeof columns[3]
+
+static void *fill(void *unused)
+{
+    uint8_t answer[DESTERLIN_FILL_ANSWER];
+    desterlin_fill(listing, listing_size, COLUMNS, answer, sizeof answer);
+    if (desterlin_word(answer, DESTERLIN_FILL_NUMBER) != DESTERLIN_ACCEPTED)
+        failed("the columns are not filled");
+    return unused;
+}
+
+static void *report_columns(void *unused)
+{
+    uint8_t answer[DESTERLIN_REPORT_ANSWER];
+    desterlin_report_columns(listing, listing_size, COLUMNS, findings, sizeof findings, work, sizeof work,
+                             answer, sizeof answer);
+    if (listing_size <= SHORT_LISTING)
+        desterlin_report_columns(listing, listing_size, COLUMNS, findings, sizeof findings, NULL, 0,
+                                 answer, sizeof answer);
+    return unused;
+}
+
+static void *lookup_columns(void *unused)
+{
+    uint8_t answer[DESTERLIN_LOOKUP_ANSWER];
+    desterlin_lookup_columns(listing, listing_size, COLUMNS, 0, 0, 0, 0, answer, sizeof answer);
     return unused;
 }
 
@@ -109,7 +140,10 @@ int main(int count, char **words)
     static const struct {
         const char *name;
         void *(*body)(void *);
-    } calls[] = { { "report", report }, { "verdict", verdict }, { "lookup", lookup }, { "write", write_parts } };
+    } calls[] = {
+        { "report", report }, { "verdict", verdict }, { "lookup", lookup }, { "fill", fill },
+        { "report from columns", report_columns }, { "lookup from columns", lookup_columns }, { "write", write_parts }
+    };
     size_t most = 0;
     for (int i = 1; i < count; i++) {
         read_listing(words[i]);

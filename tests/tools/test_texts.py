@@ -124,7 +124,7 @@ class ThePage(unittest.TestCase):
     """What docs/LISTING.md says of UTF-8."""
 
     def test_its_cases_are_what_the_library_and_the_second_program_say(self) -> None:
-        table = PAGE.split("**Request 2026-03")[1].split("**The writer: ")[0]
+        table = PAGE.split("**Request 2026-03")[1].split("\n**")[0]
         answers = dict(re.findall(r"^\| 3\.\d \| (.*) \| ((?:accepted|refused).*) \|$", table, re.M))
         self.assertEqual(set(answers), {*CASES, *CALLS})
         for words, listings in CASES.items():

@@ -76,7 +76,7 @@ RULES = {
     ]
 }
 
-# Why a listing is refused, or not written, by number (docs/LISTING.md). No tool asks for what has 9 and 10.
+# Why a listing is refused, or not written, by number (docs/LISTING.md). No tool asks for what has 9, 10 and 14.
 REASONS = {
     1: "it has fewer octets than a header",
     2: "it has more octets than a listing may have",
