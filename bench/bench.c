@@ -1,7 +1,9 @@
 /* Times the calls on one listing: bench LISTING RUNS [reader]. The least of the runs, in milliseconds, one line: read (a
  * lookup that the reader accepts and 10 then refuses), report, verdict 541, a lookup that misses, a write of the listing's
- * parts, a copy of the listing by memcpy; and the total. With "reader" the first of these and nothing else, for listings
- * of more text than a report can go over. The buffers are not cleared between runs; nothing else is measured. */
+ * parts, a copy of the listing by memcpy; the total; then, from columns, read (that lookup), report and a lookup that
+ * misses, and in the end a fill of columns and the same by a plain loop. With "reader" the first of these and nothing
+ * else, for listings of more text than a report can go over. The buffers are not cleared between runs, and the columns
+ * are filled before; nothing else is measured. */
 #define _POSIX_C_SOURCE 199309L
 #include <stdio.h>
 #include <stdlib.h>
@@ -10,11 +12,19 @@
 
 #include "desterlin.h"
 
-enum { WORK = 2097152, FINDINGS = 12 * 1048576, LISTING = 16777216, TABLES = 7 };
-enum call { READ, REPORT, VERDICT, LOOKUP, WRITE, COPY, CALLS };
+enum { WORK = 2097152, FINDINGS = 12 * 1048576, LISTING = 16777216, TABLES = 7, COLUMNS = 4 };
+enum call {
+    READ, REPORT, VERDICT, LOOKUP, WRITE, COPY, /* the total stands here in the line */
+    READ_COLUMNS, REPORT_COLUMNS, LOOKUP_COLUMNS, FILL, LOOP, CALLS
+};
 
 static uint8_t *listing, *findings, *work, *written, answer[20];
 static size_t size;
+
+/* Columns as the library fills them, and as the loop does. */
+static int64_t column[COLUMNS][DESTERLIN_TILES_MOST], looped[COLUMNS][DESTERLIN_TILES_MOST];
+#define AS_LENT(k) (uint8_t *)column[k], sizeof column[k]
+#define LENT_COLUMNS AS_LENT(0), AS_LENT(1), AS_LENT(2), AS_LENT(3)
 
 /* The parts of the listing: a table ends where the next one starts. */
 static const uint8_t *part[TABLES];
@@ -53,6 +63,21 @@ static void read_listing(const char *name) {
     }
 }
 
+/* What a C programmer would write for the fill, once the listing is known to be good. */
+static void loop(void) {
+    const uint8_t *row = part[DESTERLIN_TILES - 1];
+    size_t tiles = part_size[DESTERLIN_TILES - 1] / DESTERLIN_TILES_ROW;
+    for (size_t i = 0; i < tiles; i++, row += DESTERLIN_TILES_ROW) {
+        uint32_t start, length;
+        memcpy(&start, row, 4);
+        memcpy(&length, row + 4, 4);
+        looped[0][i] = (int64_t)((uint64_t)start << 32 | length);
+        memcpy(&looped[1][i], row + 8, 8);
+        memcpy(&looped[2][i], row + 16, 8);
+        memcpy(&looped[3][i], row + 24, 8);
+    }
+}
+
 static void make(enum call call) {
     switch (call) {
     case READ:
@@ -71,8 +96,23 @@ static void make(enum call call) {
         desterlin_write(part[0], part_size[0], part[1], part_size[1], part[2], part_size[2], part[3], part_size[3],
                         part[4], part_size[4], part[5], part_size[5], part[6], part_size[6], written, LISTING, answer, 16);
         break;
-    default:
+    case COPY:
         memcpy(written, listing, size);
+        break;
+    case READ_COLUMNS:
+        desterlin_lookup_columns(listing, size, LENT_COLUMNS, DESTERLIN_NONE, 0, 0, 0, answer, 16);
+        break;
+    case REPORT_COLUMNS:
+        desterlin_report_columns(listing, size, LENT_COLUMNS, findings, FINDINGS, work, WORK, answer, 20);
+        break;
+    case LOOKUP_COLUMNS:
+        desterlin_lookup_columns(listing, size, LENT_COLUMNS, 0, -1, -1, -1, answer, 16);
+        break;
+    case FILL:
+        desterlin_fill(listing, size, LENT_COLUMNS, answer, 12);
+        break;
+    default:
+        loop();
     }
 }
 
@@ -97,9 +137,20 @@ static int is_written_back(void) {
     return desterlin_word(answer, DESTERLIN_WRITE_OCTETS) == size && memcmp(written, listing, size) == 0;
 }
 
-static unsigned total(void) {
-    make(REPORT);
+static int is_filled_alike(void) {
+    make(FILL);
+    loop();
+    return desterlin_word(answer, DESTERLIN_FILL_NUMBER) == DESTERLIN_ACCEPTED
+        && memcmp(column, looped, sizeof column) == 0;
+}
+
+static unsigned total(enum call report) {
+    make(report);
     return desterlin_word(answer, DESTERLIN_REPORT_TOTAL);
+}
+
+static void print_times(enum call first, enum call end, int runs) {
+    for (enum call call = first; call < end; call++) printf("%.3f ", least_time(call, runs));
 }
 
 static int fails(const char *words) {
@@ -120,8 +171,12 @@ int main(int words, char **word) {
         printf("%.3f\n", least_time(READ, runs));
         return 0;
     }
-    for (enum call call = READ; call < CALLS; call++) printf("%.3f ", least_time(call, runs));
+    if (!is_filled_alike()) return fails("the fill and the loop differ");
+    if (total(REPORT) != total(REPORT_COLUMNS)) return fails("the reports differ");
+    print_times(READ, READ_COLUMNS, runs);
+    printf("%u ", total(REPORT));
+    print_times(READ_COLUMNS, CALLS, runs);
+    printf("\n");
     if (!is_written_back()) return fails("the parts do not write back");
-    printf("%u\n", total());
     return 0;
 }
