@@ -49,11 +49,11 @@ module _ (p : ℕ → Bool) where
   pub skipped-start : (start n : ℕ) → start ≤ n → Skipped p start n start
   skipped-start start n l = record { low = le-refl start; high = l; none = λ k a b. absurd (omega arith) }
 
-  pub skipped-one : (start n i : ℕ) (b : Bool) → Skipped p start n i → i < n → b ≡ p i → b ≡ false → Skipped p start n (i + 1)
-  skipped-one start n i b h l e f = record {
+  pub skipped-one : (start n i c : ℕ) → Skipped p start n i → i < n → c ≡ oneIf (p i) → c ≡ 0 → Skipped p start n (i + 1)
+  skipped-one start n i c h l e z = record {
     low = omega (arith, h .low);
     high = omega arith;
-    none = λ k a c. side k i (λ s. h .none k a s) (λ s. let q : i ≡ k = omega arith in ap p (sym q) ∙ sym e ∙ f);
+    none = λ k a b. side k i (λ s. h .none k a s) (λ s. none-one i k (sym e ∙ z) (omega arith));
   }
 
   pub skipped-eight : (start n i c : ℕ) → Skipped p start n i → 8 ≤ n - i → c ≡ ofEight p i → c ≡ 0 → Skipped p start n (i + 8)

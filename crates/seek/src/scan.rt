@@ -93,21 +93,25 @@ fn skip_entries(columns: &[u8], rows: &[u8], x: u64, y: u64, start: usize, n: us
 }
 
 // The same, of tile rows.
+fn one_row(tiles: &[u8], x: u64, y: u64, i: usize) -> u64
+    requires { ⌜ 32 * i + 32 ≤ length (now tiles) ⌝ }
+    ensures { λ r. ⌜ (r ≡ oneIf (isRow (now (tiles .entry)) x y i)) × (r ≤ 1) ⌝ }
+{
+    one_if(
+        x,
+        y,
+        octets::long(tiles, 32 * i + 16),
+        octets::long(tiles, 32 * i + 24),
+    )
+}
+
 fn skip_rows(tiles: &[u8], x: u64, y: u64, start: usize, n: usize) -> usize
     requires { ⌜ (start ≤ n) × (32 * n ≤ length (now tiles)) ⌝ }
     ensures { λ r. ⌜ Skipped (isRow (now (tiles .entry)) x y) start n r ⌝ }
 {
     let mut i = start;
     while i < n {
-        let at = 32 * i;
-        if one_if(
-            x,
-            y,
-            octets::long(tiles, at + 16),
-            octets::long(tiles, at + 24),
-        )
-            != 0
-        {
+        if one_row(tiles, x, y, i) != 0 {
             return i;
         }
         i += 1;
