@@ -1,9 +1,10 @@
 /* Times the calls on one listing: bench LISTING RUNS [reader]. The least of the runs, in milliseconds, one line: read (a
  * lookup that the reader accepts and 10 then refuses), report, verdict 541, a lookup that misses, a write of the listing's
  * parts, a copy of the listing by memcpy; the total; then, from columns, read (that lookup), report and a lookup that
- * misses, and in the end a fill of columns and the same by a plain loop. With "reader" the first of these and nothing
- * else, for listings of more text than a report can go over. The buffers are not cleared between runs, and the columns
- * are filled before; nothing else is measured. */
+ * misses; a fill of columns and the same by a plain loop; and in the end, from rows and from columns, a lookup that
+ * misses by its zoom alone: column and row are the last tile's. With "reader" the first of these and nothing else, for
+ * listings of more text than a report can go over. The buffers are not cleared between runs, and the columns are filled
+ * before; nothing else is measured. */
 #define _POSIX_C_SOURCE 199309L
 #include <stdio.h>
 #include <stdlib.h>
@@ -15,7 +16,7 @@
 enum { WORK = 2097152, FINDINGS = 12 * 1048576, LISTING = 16777216, TABLES = 7, COLUMNS = 4 };
 enum call {
     READ, REPORT, VERDICT, LOOKUP, WRITE, COPY, /* the total stands here in the line */
-    READ_COLUMNS, REPORT_COLUMNS, LOOKUP_COLUMNS, FILL, LOOP, CALLS
+    READ_COLUMNS, REPORT_COLUMNS, LOOKUP_COLUMNS, FILL, LOOP, PLACED, PLACED_COLUMNS, CALLS
 };
 
 static uint8_t *listing, *findings, *work, *written, answer[20];
@@ -78,6 +79,14 @@ static void loop(void) {
     }
 }
 
+/* A number of the last tile row, by its place in the row; 0 where there is none. */
+static int64_t last_number(size_t place) {
+    size_t tiles_size = part_size[DESTERLIN_TILES - 1];
+    int64_t number = 0;
+    if (tiles_size != 0) memcpy(&number, part[DESTERLIN_TILES - 1] + tiles_size - DESTERLIN_TILES_ROW + place, 8);
+    return number;
+}
+
 static void make(enum call call) {
     switch (call) {
     case READ:
@@ -111,8 +120,14 @@ static void make(enum call call) {
     case FILL:
         desterlin_fill(listing, size, LENT_COLUMNS, answer, 12);
         break;
-    default:
+    case LOOP:
         loop();
+        break;
+    case PLACED:
+        desterlin_lookup(listing, size, 0, -1, last_number(16), last_number(24), answer, 16);
+        break;
+    default:
+        desterlin_lookup_columns(listing, size, LENT_COLUMNS, 0, -1, last_number(16), last_number(24), answer, 16);
     }
 }
 
