@@ -1,6 +1,6 @@
 -- A row that is there, and one past the last: one pair of laws for all tables. Entries of columns. And a number that is no table's.
 use Prim.Native.Nat.{ℕ, zero, suc, _+_, _*_, _<_, _≤_}
-use mathlib.Core.Path.{_≡_, refl, subst}
+use mathlib.Core.Path.{_≡_, refl, sym, ap, _∙_, subst}
 use mathlib.Core.List.{List}
 use mathlib.Core.Bool.{cond}
 use native.Mathlib.Omega.{arith}
@@ -11,9 +11,11 @@ use lib.ListN.{length}
 use Rattle.octets.specs.Slices.{nth}
 use Rattle.listing.specs.Listing.{tablesOf}
 use Rattle.pack.specs.Rows.{Pack, rowsIn}
-use Rattle.pack.specs.Tables.{tileCount, tileIn, withTiles, packIn, packOf}
+use Rattle.pack.specs.Tables.{tileRow, tileCount, tileIn, withTiles, packIn, packOf}
 use Rattle.pack.specs.Columns.{entries, entryCount}
+use Rattle.pack.specs.declared.Form.{Form}
 use Rattle.pack.specs.declared.Form.the-variants as form
+use Rattle.pack.specs.declared.TileRow.{TileRow}
 
 module _ {ℓ} {A : Type ℓ} (i n : ℕ) (r x blank : A) where
   pub row-there : i < n → r ≡ x → r ≡ cond (ltb i n) x blank
@@ -50,6 +52,15 @@ module _ (a b c d : List ℕ) (i n : ℕ) where
   pub room-fourth : n ≡ entryCount a b c d → i < n → 8 * i + 8 ≤ length d
   unfolding entryCount entries
   room-fourth e l = omega (arith, e, l)
+
+-- a tile, by the form in which tiles stand
+module _ (f : Form) (ts : List (List ℕ)) (i : ℕ) (r : TileRow) where
+  pub tile-row : (t : List ℕ) → f ≡ form.Rows → t ≡ nth ts 4 → r ≡ tileRow t i → r ≡ tileIn f ts i
+  unfolding tileIn
+  tile-row t q e h = h ∙ ap (λ (u : List ℕ). tileRow u i) e ∙ ap (λ (g : Form). tileIn g ts i) (sym q)
+
+  pub tile-entry : f ≡ form.Columns → r ≡ tileIn form.Columns ts i → r ≡ tileIn f ts i
+  tile-entry q h = h ∙ ap (λ (g : Form). tileIn g ts i) (sym q)
 
 -- the tables of a listing with its own rows in all places of tiles
 pub cut-rows : (s t : List ℕ) (ts us : List (List ℕ)) → ts ≡ tablesOf s → t ≡ nth ts 4 → us ≡ withTiles ts t t t t → packIn form.Rows us ≡ packOf s
