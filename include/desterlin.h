@@ -238,10 +238,10 @@ enum desterlin_lookup_word {
  * big-endian machine it is not: there the columns are buffers of octets, and desterlin_word reads the lower half of
  * entry i at 2 * i and the upper half at 2 * i + 1.
  *
- * What they are good for: the tiles as plain numbers, for a table of the caller's own; and the search of a lookup,
- * which reads two columns, 16 octets a tile, in place of rows of 32. The check of the listing that comes before the
- * search stays, and the texts that the columns spell are checked besides. A report gains nothing: it needs all four
- * numbers of a tile anyway. docs/SPEED.md has what each comes to.
+ * What they are good for: the tiles as plain numbers, for a table of the caller's own. The search of a lookup reads two
+ * columns, 16 octets a tile, in place of rows of 32; but the check of the listing that comes before the search stays,
+ * and the texts that the columns spell are checked besides, so that a whole lookup takes no less time than one from
+ * rows. Nor does a report, which needs all four numbers of a tile anyway. docs/SPEED.md has what each comes to.
  *
  * They hold the tiles of one listing: for another one, or the same one changed, fill them again. No call keeps anything
  * that could tell that they are old.

@@ -1,10 +1,10 @@
--- Entries of the first column as the code meets them: those that spell a text of ASCII octets are passed eight at a time, and others whose text is clear one by one.
-use Prim.Native.Nat.{ℕ, _+_, _*_, _/_, _%_, _≤_}
+-- Entries of the first column as the code meets them: those that spell a text of ASCII octets are passed a block at a time, and others whose text is clear one by one.
+use Prim.Native.Nat.{ℕ, _+_, _*_, _/_, _%_, _<_, _≤_}
 use mathlib.Core.Path.{_≡_}
 use mathlib.Core.List.{List}
 use mathlib.Core.Bool.{Bool, false}
 use lib.Dec.{ltb}
-use Rattle.octets.specs.Octets.{le64}
+use Rattle.octets.specs.Octets.{le32, le64}
 use Rattle.octets.specs.SearchLaws.{Seeking}
 use Rattle.utf8.specs.MarkLaws.{Clear}
 
@@ -15,6 +15,16 @@ endOf v = v / 4294967296 + v % 4294967296
 -- the text of entry i ends past some ASCII octets with which the names begin
 unfoldable pub isPast : List ℕ → ℕ → ℕ → Bool
 isPast c plain i = ltb plain (endOf (le64 c (8 * i)))
+
+-- no text of the entries from start up to end ends past r
+abbrev pub Within : List ℕ → ℕ → ℕ → ℕ → Type 0
+Within c start end r = (k : ℕ) → start ≤ k → k < end → endOf (le64 c (8 * k)) ≤ r
+
+-- since the latest of them starts at a, and the longest has length b
+pub record Reaching (c : List ℕ) (start end a b : ℕ) : Type 0 where
+  pub low : start ≤ end
+  pub latest : (k : ℕ) → start ≤ k → k < end → le32 c (8 * k + 4) ≤ a
+  pub longest : (k : ℕ) → start ≤ k → k < end → le32 c (8 * k) ≤ b
 
 -- the text of entry i is clear
 abbrev pub ClearEntry : List ℕ → List ℕ → ℕ → Type 0

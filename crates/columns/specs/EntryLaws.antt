@@ -1,8 +1,9 @@
--- The laws of entries of the first column: what each spells, that a clear text has no fault, and 7 and 13 in one search.
-use Prim.Native.Nat.{ℕ, _+_, _*_, _/_, _%_, _^_, _<_, _≤_}
+-- The laws of entries of the first column: what each spells, what is passed a block at a time, that a clear text has no fault, and 7 and 13 in one search.
+use Prim.Native.Nat.{ℕ, _+_, _*_, _-_, _/_, _%_, _^_, _<_, _≤_, max}
 use mathlib.Core.Path.{_≡_, refl, sym, ap, _∙_, subst}
 use mathlib.Core.List.{List, []}
 use mathlib.Core.Bool.{Bool, true, false, cond, not, _&&_, _||_, false≢true}
+use native.Mathlib.Nat.{le-refl}
 use native.Mathlib.Omega.{arith}
 use borrow.Author.Tests.{lt-ltb, le-ltb, lt-leb, ne-eqb, ltb-true, ltb-false}
 use lib.Dec.{ltb, eqb}
@@ -10,6 +11,7 @@ use lib.ListN.{length}
 use Rattle.octets.specs.Octets.{le32, le64, part}
 use Rattle.octets.specs.Search.{first, any}
 use Rattle.octets.specs.SearchLaws.{first-agree, none-at, any-or, finds, misses}
+use Rattle.octets.specs.SkipLaws.{Skipped, side}
 use Rattle.octets.specs.Texts.{textOf, outside}
 use Rattle.octets.specs.declared.Text.{Text}
 use Rattle.octets.specs.declared.Text.the-variants as text
@@ -24,7 +26,7 @@ use Rattle.listing.specs.declared.TextFault.{TextFault}
 use Rattle.listing.specs.declared.TextFault.the-variants.{Outside, Either}
 use Rattle.listing.specs.declared.TextOrder.the-variants.{LengthFirst}
 use Rattle.columns.specs.Refusals.{entryText, faultyEntry, entryReasons}
-use Rattle.columns.specs.Entries.{endOf, ClearEntry}
+use Rattle.columns.specs.Entries.{endOf, isPast, Within, Reaching, ClearEntry}
 
 -- ---- what an entry spells: its two halves are the text's start and length
 module _ (c : List ℕ) (at : ℕ) (l : le32 c at < 2 ^ 32) where
@@ -35,6 +37,32 @@ module _ (c : List ℕ) (at : ℕ) (l : le32 c at < 2 ^ 32) where
   pub length-of : le64 c at % 4294967296 ≡ le32 c at
   unfolding le64
   length-of = omega arith
+
+-- ---- entries that are passed a block at a time
+module _ (c : List ℕ) (start : ℕ) where
+  pub reach-none : Reaching c start start 0 0
+  reach-none = record { low = le-refl start; latest = λ k l h. absurd (omega arith); longest = λ k l h. absurd (omega arith) }
+
+  pub reach-more : (i a b a′ b′ s l : ℕ) → Reaching c start i a b → s ≡ le32 c (8 * i + 4) → a′ ≡ max a s → l ≡ le32 c (8 * i) → b′ ≡ max b l → Reaching c start (i + 1) a′ b′
+  reach-more i a b a′ b′ s l h e f g m = record {
+    low = omega (arith, h .low);
+    latest = λ k x y. side k i (λ w. omega (arith, h .latest k x w)) (λ w. let d : k ≡ i = omega arith in omega (arith, ap (λ (j : ℕ). le32 c (8 * j + 4)) d));
+    longest = λ k x y. side k i (λ w. omega (arith, h .longest k x w)) (λ w. let d : k ≡ i = omega arith in omega (arith, ap (λ (j : ℕ). le32 c (8 * j)) d));
+  }
+
+  pub reach-end : (end i a b r : ℕ) → Reaching c start i a b → end ≤ i → b < 2 ^ 32 → r ≡ a + b → Within c start end r
+  reach-end end i a b r h l w e k x y =
+      let z : k < i = omega arith in
+      let m : le32 c (8 * k) < 2 ^ 32 = omega (arith, h .longest k x z) in
+      omega (arith, h .latest k x z, h .longest k x z, start-of c (8 * k) m, length-of c (8 * k) m)
+
+  pub skipped-block : (plain n i r : ℕ) → Skipped (isPast c plain) start n i → 64 ≤ n - i → Within c i (i + 64) r → r ≤ plain → Skipped (isPast c plain) start n (i + 64)
+  unfolding isPast
+  skipped-block plain n i r h l w e = record {
+    low = omega (arith, h .low);
+    high = omega (arith, h .high);
+    none = λ k x y. side k i (λ s. h .none k x s) (λ s. le-ltb plain (endOf (le64 c (8 * k))) (omega (arith, w k s y)));
+  }
 
 -- a fault that every text past the names has or has not as NULL has it, is that of the text by its two numbers: "a negative one spells no text"
 module _ (fault : Bool → Text → Bool) (b : Bool) (n : ℕ) (m : n ≤ 1048576) (e : fault false text.Null ≡ b) (f : (start len : ℕ) → n < start + len → fault false (text.Octets start len) ≡ b) where

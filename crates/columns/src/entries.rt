@@ -1,61 +1,45 @@
 // The entries of the first column: whether each spells a text in the names that is well-formed.
 ghost use mathlib.Core.Path.{_≡_};
-ghost use Prim.Native.Nat.{_+_, _*_, _<_, _≤_};
-ghost use lib.Dec.{ltb};
+ghost use Prim.Native.Nat.{_+_, _*_, _<_, _≤_, max};
 ghost use lib.ListN.{length};
-ghost use Rattle.octets.specs.Counts.{oneIf, ofTwo, ofFour, ofEight};
 ghost use Rattle.octets.specs.Search.{first};
 ghost use Rattle.octets.specs.SkipLaws.{Skipped};
 ghost use Rattle.utf8.specs.MarkLaws.{Marks};
 ghost use Rattle.listing.specs.Refusals.{checked};
 ghost use Rattle.listing.specs.FaultLaws.{asked};
 ghost use Rattle.columns.specs.Refusals.{faultyEntry, entryReasons};
-ghost use Rattle.columns.specs.Entries.{endOf, isPast, Cleared};
+ghost use Rattle.columns.specs.Entries.{isPast, Within, Cleared};
 use listing::Checked;
 use listing::Cursor;
 use listing::TextFault;
 use listing::TextOrder;
 
-// How many entries are looked at one by one before eight at a time are tried again.
+// How many entries are passed at a time.
+const BLOCK: usize = 64;
+
+// How many are looked at one by one before a block is tried again.
 const STRETCH: usize = 512;
 
-// 1 where a text ends past the ASCII octets with which the names begin, 0 where it does not.
-fn is_past(first: u64, plain: u64) -> u64
-    ensures { λ r. ⌜ (r ≡ oneIf (ltb plain (endOf first))) × (r ≤ 1) ⌝ }
+fn greatest(a: u32, b: u32) -> u32
+    ensures { λ r. ⌜ (r ≡ max a b) × (r < 4294967296) ⌝ }
 {
-    if plain < first / 4294967296 + first % 4294967296 {
-        return 1;
+    if a < b { b } else { a }
+}
+
+// A place past which no text of some entries ends: where the latest starts, and how long the longest is. A compiler makes few steps of it.
+fn reach(firsts: &[u8], start: usize, end: usize) -> u64
+    requires { ⌜ (start ≤ end) × (8 * end ≤ length (now firsts)) ⌝ }
+    ensures { λ r. ⌜ Within (now (firsts .entry)) start end r ⌝ }
+{
+    let mut latest = 0;
+    let mut longest = 0;
+    let mut i = start;
+    while i < end {
+        latest = greatest(latest, octets::word(firsts, 8 * i + 4));
+        longest = greatest(longest, octets::word(firsts, 8 * i));
+        i += 1;
     }
-    0
-}
-
-fn one(firsts: &[u8], i: usize, plain: u64) -> u64
-    requires { ⌜ 8 * i + 8 ≤ length (now firsts) ⌝ }
-    ensures { λ r. ⌜ (r ≡ oneIf (isPast (now (firsts .entry)) plain i)) × (r ≤ 1) ⌝ }
-{
-    is_past(octets::long(firsts, 8 * i), plain)
-}
-
-fn two(firsts: &[u8], i: usize, plain: u64) -> u64
-    requires { ⌜ 8 * i + 16 ≤ length (now firsts) ⌝ }
-    ensures { λ r. ⌜ (r ≡ ofTwo (isPast (now (firsts .entry)) plain) i) × (r ≤ 2) ⌝ }
-{
-    one(firsts, i, plain) + one(firsts, i + 1, plain)
-}
-
-fn four(firsts: &[u8], i: usize, plain: u64) -> u64
-    requires { ⌜ 8 * i + 32 ≤ length (now firsts) ⌝ }
-    ensures { λ r. ⌜ (r ≡ ofFour (isPast (now (firsts .entry)) plain) i) × (r ≤ 4) ⌝ }
-{
-    two(firsts, i, plain) + two(firsts, i + 2, plain)
-}
-
-// How many of eight entries do: a sum without a branch, which a compiler makes of few steps.
-fn eight(firsts: &[u8], i: usize, plain: u64) -> u64
-    requires { ⌜ 8 * i + 64 ≤ length (now firsts) ⌝ }
-    ensures { λ r. ⌜ r ≡ ofEight (isPast (now (firsts .entry)) plain) i ⌝ }
-{
-    four(firsts, i, plain) + four(firsts, i + 4, plain)
+    (latest as u64) + (longest as u64)
 }
 
 // A place from start on, at most n, before which every entry spells a text of ASCII octets.
@@ -64,11 +48,11 @@ fn skip_plain(firsts: &[u8], plain: u64, start: usize, n: usize) -> usize
     ensures { λ r. ⌜ Skipped (isPast (now (firsts .entry)) plain) start n r ⌝ }
 {
     let mut i = start;
-    while 8 <= n - i {
-        if eight(firsts, i, plain) != 0 {
+    while BLOCK <= n - i {
+        if plain < reach(firsts, i, i + BLOCK) {
             return i;
         }
-        i += 8;
+        i += BLOCK;
     }
     i
 }

@@ -21,7 +21,7 @@ side-by : {A : Type 0} (m j : ℕ) (b : Bool) → ltb m j ≡ b → (m < j → A
 side-by m j true e f g = f (ltb-true m j e)
 side-by m j false e f g = g (ltb-false m j e)
 
-side : {A : Type 0} (m j : ℕ) → (m < j → A) → (j ≤ m → A) → A
+pub side : {A : Type 0} (m j : ℕ) → (m < j → A) → (j ≤ m → A) → A
 side m j = side-by m j (ltb m j) refl
 
 module _ (p : ℕ → Bool) where

@@ -1,8 +1,9 @@
 -- `columns::entries::skip_plain` meets its contract.
 use Prim.Native.Nat.{_-_}
 use native.Mathlib.Omega.{arith}
-use Rattle.octets.specs.SkipLaws.{Skipped, skipped-start, skipped-eight}
+use Rattle.octets.specs.SkipLaws.{Skipped, skipped-start}
 use Rattle.columns.specs.Entries.{isPast}
+use Rattle.columns.specs.EntryLaws.{skipped-block}
 use borrow.Author.Needs.{needs}
 use Rattle.columns.proofs.entries.skip_plain.Statement.{statement}
 use Rattle.columns.proofs.entries.skip_plain.Tie as tie
@@ -20,9 +21,10 @@ skip-plain-spec =
     μ-loop
     (λ c. search (skipped-start, needs))
     (λ c. omega (arith, c .loop .inv .high))
-    (λ c κs. omega (arith, c .before .loop .inv .high))
+    (λ c. omega (arith, c .before .loop .inv .high))
+    (λ c κs. (omega arith, omega (arith, c .before .loop .inv .high)))
     (λ c. search needs)
     (λ c. omega arith)
     (λ c. omega arith)
-    (λ c. search (skipped-eight, needs))
+    (λ c. search (skipped-block, needs))
     (λ c. search needs))
