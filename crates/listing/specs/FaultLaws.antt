@@ -153,17 +153,19 @@ roomy-same t size base texts n m h e = subst (λ (n : ℕ). Roomy t size base te
 -- a cursor has passed rows whose one text is clear: whatever no such row has, a search has not met on the way
 pub record Passed (o : TextOrder) (names t : List ℕ) (size base texts : ℕ) (c d : Cursor) : Type 0 where
   pub after : c .row ≤ d .row
+  pub within : c .row ≤ c .end → d .row ≤ d .end
   pub end : d .end ≡ c .end
   pub on : (p : ℕ → Bool) → ((i : ℕ) → texts ≡ 1 → ClearAt o names t (size * i + base) → p i ≡ false) → Seeking p (c .row) (c .end) → Seeking p (d .row) (d .end)
 
 module _ (o : TextOrder) (names t : List ℕ) (size base texts : ℕ) where
   pub passed-none : (c : Cursor) → Passed o names t size base texts c c
-  passed-none c = record { after = le-refl (c .row); end = refl; on = λ p h s. s }
+  passed-none c = record { after = le-refl (c .row); within = λ w. w; end = refl; on = λ p h s. s }
 
   pub passed-more : (a c d : Cursor) (here : Name) (b : Bool) → Passed o names t size base texts a c → texts ≡ 1 → here ≡ nameBy o t (size * c .row + base)
       → (b ≡ true → Clear names (here .start) (here .len)) → not b ≡ false → c .row < c .end → d .row ≡ c .row + 1 → d .end ≡ c .end → Passed o names t size base texts a d
   passed-more a c d here b h f w s n l u v = record {
     after = omega (arith, h .after, u);
+    within = λ w. omega (arith, l, u, v);
     end = v ∙ h .end;
     on = λ p g k. cursor-more p (c .row) (d .row) (c .end) (d .end) false (h .on p g k) l (sym (g (c .row) f (subst (λ (x : Name). Clear names (x .start) (x .len)) w (s (not-false b n))))) refl u v;
   }

@@ -2,12 +2,12 @@
 use Prim.Native.Nat.{ℕ, suc, _+_, _-_, _*_, _/_, _%_, _^_, _<_, _≤_}
 use mathlib.Core.Path.{_≡_, refl, sym, ap, _∙_, subst}
 use mathlib.Core.List.{List}
-use mathlib.Core.Bool.{Bool, true, false}
+use mathlib.Core.Bool.{Bool, true, false, not}
 use mathlib.Core.Logic.{_⊎_, inl, inr, ⊎-elim}
 use native.Mathlib.Nat.{le-refl, lt-of-not-le, lt-of-lt-of-le, mod-lt, mod-eq-of-lt, div-eq-of-lt, zero-div, add-mul, one-mul, mul-comm, pow-suc}
 use native.Mathlib.Decide.{decLe, ℕ-discrete}
 use native.Mathlib.Omega.{arith}
-use borrow.Author.Tests.{leb-true}
+use borrow.Author.Tests.{leb-true, not-true}
 use lib.Dec.{leb}
 use lib.ListN.{length, getD, set, replicate, getD-replicate, length-replicate, List·getD-eq-default}
 use lib.Pow.{pow-pos, pow-lt, pow-mono, pow-add, split, high}
@@ -217,6 +217,33 @@ module _ (s : List ℕ) where
     pub between-inside : (y : Bool) → y ≡ continuation (getD s e 0) → y ≡ false → Between a e
     between-inside y h k = record { lead = sym f ∙ g; ends = ends-lead s e (sym h ∙ k) }
 
+  -- a stretch that the octets begin with
+  pub record Head (h : ℕ) : Type 0 where
+    pub covered : Stretch s 0 h
+    pub within : h ≤ length s
+    pub small : h < 2 ^ 32
+
+  pub head-none : Head 0
+  head-none = record { covered = record { each = λ q l h. absurd (omega arith) }; within = omega arith; small = omega arith }
+
+  pub head-first : (m : List ℕ) (v : ℕ) → Marks s m → v ≡ getD m 1 0 → v < 2 ^ 32 → v % 256 ≡ 0 → Head (v / 256)
+  head-first m v h e w z = record {
+    covered = subst (λ (a : ℕ). Stretch s a (v / 256)) (omega arith) (subst (λ (v : ℕ). Stretch s (256 * 0 + v % 256) (v / 256)) (sym e) (h .entry 0));
+    within = omega (arith, e, h .border 0 .within);
+    small = omega arith;
+  }
+
+  -- a text that ends in it
+  pub clear-head : (h start len : ℕ) (x y b : Bool) → Head h → start + len < h → x ≡ continuation (getD s start 0) → x ≡ false → y ≡ continuation (getD s (start + len) 0) → b ≡ not y → b ≡ true → Clear start len
+  clear-head h start len x y b w l e f g d t = record {
+    present = omega (arith, w .small);
+    within = inside;
+    well = stretch-part s 0 h start len (w .covered) (omega arith) (omega arith) inside (sym e ∙ f) (ends-lead s (start + len) (sym g ∙ not-true y (sym d ∙ t)));
+  }
+    where
+      inside : start + len ≤ length s
+      inside = omega (arith, w .within)
+
   -- a block's stretch
   pub known-border : (m : List ℕ) (i v : ℕ) → Marks s m → v ≡ getD m (2 * i + 1) 0 → Border s (v / 256)
   known-border m i v h e = subst (λ (v : ℕ). Border s (v / 256)) (sym e) (h .border i)
@@ -232,9 +259,6 @@ module _ (s : List ℕ) where
     where
       inside : start + len ≤ length s
       inside = omega (arith, q, e, h .border i .within)
-
-  pub clear-none : Clear 0 0
-  clear-none = record { present = omega arith; within = omega arith; well = plain-part s 0 0 0 (plain-start s) (omega arith) }
 
   pub marks-cell : (m : List ℕ) (c i : ℕ) → Marks s m → i ≡ c / 32 → bit (getD m (2 * i + 2) 0) (c % 32) ≡ 1 → Stretch s (8 * c) (8 * c + 8)
   marks-cell m c i h e b = let d : 256 * i + 8 * (c % 32) ≡ 8 * c = omega arith in subst (λ (n : ℕ). Stretch s n (n + 8)) d (h .cells i (c % 32) b)

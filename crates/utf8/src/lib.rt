@@ -6,6 +6,8 @@ mod texts;
 
 pub use marks::mark;
 pub use steps::is_well_formed;
+pub use texts::head_of;
 pub use texts::is_ill;
+pub use texts::is_in_head;
 pub use texts::is_known;
 pub use texts::is_plain;

@@ -8,17 +8,25 @@ ghost use Rattle.octets.specs.Octets.{part};
 ghost use Rattle.utf8.specs.Utf8.{wellFormed};
 ghost use Rattle.utf8.specs.CharacterLaws.{continuation};
 ghost use Rattle.utf8.specs.CoverLaws.{Stretch};
-ghost use Rattle.utf8.specs.MarkLaws.{Border, Marks, Between, Clear, bit, Front, Back};
+ghost use Rattle.utf8.specs.MarkLaws.{Border, Marks, Head, Between, Clear, bit, Front, Back};
 use crate::characters::within;
 use crate::steps::is_well_formed;
 use crate::steps::walk;
 
-// Whether a continuation octet stands at a place.
+// Whether the octet at a place is a continuation octet.
+fn continues(s: &[u8], p: usize) -> bool
+    requires { ⌜ p < length (now s) ⌝ }
+    ensures { λ r. ⌜ r ≡ continuation (getD (now (s .entry)) p 0) ⌝ }
+{
+    within(0x80, 0xBF, s[p])
+}
+
+// The same of any place: past the end there is none.
 fn is_inner(s: &[u8], p: usize) -> bool
     ensures { λ r. ⌜ r ≡ continuation (getD (now (s .entry)) p 0) ⌝ }
 {
     if p < s.len() {
-        return within(0x80, 0xBF, s[p]);
+        return continues(s, p);
     }
     false
 }
@@ -34,6 +42,34 @@ pub fn is_plain(marks: &[u32; 8193], start: u32, len: u32) -> bool
     ensures { λ r. ⌜ r ≡ leb (start + len) (getD (now (marks .entry)) 0 0) ⌝ }
 {
     (start as usize) + (len as usize) <= wide(marks[0])
+}
+
+// Where the stretch ends that the octets begin with, or 0.
+pub fn head_of(s: &[u8], marks: &[u32; 8193]) -> usize
+    requires { ⌜ Marks (now s) (now marks) ⌝ }
+    ensures { λ r. ⌜ Head (now (s .entry)) r ⌝ }
+{
+    let v = wide(marks[1]);
+    if v % 256 != 0 {
+        return 0;
+    }
+    v / 256
+}
+
+// Whether a text that ends in that stretch begins and ends between characters. One that ends with the stretch is left to its block.
+pub fn is_in_head(s: &[u8], head: usize, start: u32, len: u32) -> bool
+    requires { ⌜ Head (now s) head ⌝ }
+    ensures { λ r. ⌜ (r ≡ true → Clear (now (s .entry)) start len) ⌝ }
+{
+    let from = start as usize;
+    let end = from + (len as usize);
+    if head <= end {
+        return false;
+    }
+    if continues(s, from) {
+        return false;
+    }
+    !continues(s, end)
 }
 
 // Whether a part of a stretch begins and ends between characters.

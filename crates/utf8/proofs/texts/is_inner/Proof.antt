@@ -8,4 +8,4 @@ pub is-inner-spec : {M : Type 1} → statement M
 is-inner-spec =
     tie.close
     (tie.spec
-    (λ c. search needs) (λ c κs. search needs) (λ c. search needs) (λ c. search (inner-past, needs)))
+    (λ c κs. search needs) (λ c. search needs) (λ c. search (inner-past, needs)))
