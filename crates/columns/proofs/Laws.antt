@@ -1,11 +1,11 @@
 -- The cases of the definitions, in the shape in which needs ask for them.
-use Prim.Native.Nat.{ℕ, _+_, _*_, _/_, _%_, _^_, _<_, _≤_, min}
+use Prim.Native.Nat.{ℕ, _+_, _*_, _-_, _/_, _%_, _^_, _<_, _≤_, min}
 use mathlib.Core.Path.{_≡_, refl, sym, ap, _∙_, subst}
 use mathlib.Core.List.{List, [], _∷_, _++_}
 use mathlib.Core.Bool.{Bool, true, false, _||_}
 use native.Mathlib.Omega.{arith}
-use borrow.Author.Tests.{le-leb, ltb-false}
-use lib.Dec.{ltb}
+use borrow.Author.Tests.{le-leb, ltb-false, eqb-true, eq-eqb, ne-eqb, not-false}
+use lib.Dec.{ltb, eqb}
 use lib.ListN.{length, getD}
 use lib.Seq.{sets}
 use mir.Syntax.{w64}
@@ -13,7 +13,8 @@ use mir.Val.{Fits}
 use Rattle.octets.specs.Octets.{le32, le64, part, word, filled}
 use Rattle.octets.specs.BufferLaws.{filled-none}
 use Rattle.octets.specs.Slices.{nth}
-use Rattle.octets.specs.SearchLaws.{Seeking, seek-more}
+use Rattle.octets.specs.Counts.{oneIf}
+use Rattle.octets.specs.SearchLaws.{Seeking, seek-more, first-lowest}
 use Rattle.octets.specs.SkipLaws.{Skipped, skipped-on}
 use Rattle.octets.specs.Search.{first}
 use Rattle.octets.specs.Texts.{textOf}
@@ -36,16 +37,24 @@ use Rattle.listing.specs.declared.TextFault.{TextFault}
 use Rattle.listing.specs.declared.TextOrder.the-variants.{LengthFirst}
 use Rattle.pack.specs.Columns.{entries}
 use Rattle.pack.specs.Tables.{withTiles}
-use Rattle.columns.specs.Refusals.{isShort, shortReason, faultyEntry, entryReasons, columnReasons, columnOutcome, fillAnswer}
+use Rattle.columns.specs.Refusals.{isShort, shortReason, entryText, faultyEntry, entryReasons, columnReasons, columnOutcome, fillAnswer}
 use Rattle.columns.specs.ColumnRefusalLaws.{refused-same, column-rest, fill-same, fill-rest}
-use Rattle.columns.specs.Entries.{endOf, isPast, ClearEntry, Cleared}
+use Rattle.columns.specs.Entries.{endOf, isPast, isOther, ClearEntry, Cleared}
 use Rattle.columns.specs.EntryLaws.{entry-asked, clear-entry, clear-read}
 use Rattle.columns.specs.Tiles.{entry, column, given, FillOf, read, columnTables}
 use Rattle.columns.specs.FillLaws.{or-none, Room, FilledAs, entry-words}
 
 -- ---- entries that a search need not meet
--- some are passed eight at a time, and a stretch behind them is looked at one by one
-pub roomy-entries : (c : List ℕ) (plain start n i e : ℕ) → Skipped (isPast c plain) start n i → e ≡ min n (i + 512) → 8 * n ≤ length c → Roomy c 8 0 1 e
+pub other-not : (c : List ℕ) (v x i : ℕ) → x ≡ le64 c (8 * i) → x ≡ v → 0 ≡ oneIf (isOther c v i)
+unfolding oneIf isOther
+other-not c v x i e f = let u : eqb (le64 c (8 * i)) v ≡ true = eq-eqb (le64 c (8 * i)) v (sym e ∙ f) in simp u
+
+pub other-is : (c : List ℕ) (v x i : ℕ) → x ≡ le64 c (8 * i) → (x ≡ v → ⊥) → 1 ≡ oneIf (isOther c v i)
+unfolding oneIf isOther
+other-is c v x i e f = let u : eqb (le64 c (8 * i)) v ≡ false = ne-eqb (le64 c (8 * i)) v (λ g. f (e ∙ g)) in simp u
+
+-- behind those that are passed by a block, a stretch is looked at one by one
+pub roomy-entries : (c : List ℕ) (plain start n i e : ℕ) → Skipped (isPast c plain) start n i → e ≡ min n (i + 128) → 8 * n ≤ length c → Roomy c 8 0 1 e
 roomy-entries c plain start n i e h q l = record { room = λ j b. omega (arith, q, h .high) }
 
 module _ (names c m : List ℕ) (plain start n i : ℕ) (w : Marks names m) (d : plain ≡ getD m 0 0) (h : Skipped (isPast c plain) start n i) where
@@ -54,17 +63,39 @@ module _ (names c m : List ℕ) (plain start n i : ℕ) (w : Marks names m) (d :
   unfolding isPast
   plain-clear j e = clear-plain names m (le64 c (8 * j) / 4294967296) (le64 c (8 * j) % 4294967296) true w (sym (le-leb (endOf (le64 c (8 * j))) (getD m 0 0) (omega (arith, ltb-false plain (endOf (le64 c (8 * j))) e, d)))) refl
 
-  pub cleared : (e : ℕ) («from» to : Cursor) → length names ≤ 1048576 → e ≡ min n (i + 512) → «from» .row ≡ i → «from» .end ≡ e → Passed LengthFirst names c 8 0 1 «from» to → Cleared names c start n (to .row)
-  cleared e «from» to s g r t q = record {
-    low = omega (arith, h .low, r, q .after);
-    on = λ p f k.
-        let u : Seeking p i n = skipped-on p start n i k (record { low = h .low; high = h .high; none = λ j x y. f j (plain-clear j (h .none j x y)) }) in
-        let v : Seeking p (to .row) (to .end) = q .on p (λ j _ x. f j (clear-read names c j s x)) (record { within = omega (arith, r, t, g, h .high); none = subst (λ (j : ℕ). first p j ≡ j) (sym r) (u .none) }) in
-        record { within = omega (arith, v .within, q .end, t, g, h .high); none = v .none };
-  }
+  module _ (e : ℕ) («from» to : Cursor) (s : length names ≤ 1048576) (g : e ≡ min n (i + 128)) (r : «from» .row ≡ i) (t : «from» .end ≡ e) (q : Passed LengthFirst names c 8 0 1 «from» to) where
+    pub inside : to .row ≤ n
+    inside = omega (arith, q .within (omega (arith, r, t, g, h .high)), q .end, t, g)
+
+    pub cleared : Cleared names c start n (to .row)
+    cleared = record {
+      low = omega (arith, h .low, r, q .after);
+      on = λ p f k.
+          let u : Seeking (λ j. p (le64 c (8 * j))) i n = skipped-on (λ j. p (le64 c (8 * j))) start n i k (record { low = h .low; high = h .high; none = λ j x y. f j (plain-clear j (h .none j x y)) }) in
+          let v : Seeking (λ j. p (le64 c (8 * j))) (to .row) (to .end) = q .on (λ j. p (le64 c (8 * j))) (λ j _ x. f j (clear-read names c j s x)) (record { within = omega (arith, r, t, g, h .high); none = subst (λ (j : ℕ). first (λ j. p (le64 c (8 * j))) j ≡ j) (sym r) (u .none) }) in
+          record { within = inside; none = v .none };
+    }
+
+    -- and repetitions of the last of them
+    pub cleared-alike : (j v x : ℕ) → j ≡ to .row → i < j → v ≡ le64 c (8 * (j - 1)) → Skipped (isOther c v) j n x → Cleared names c start n x
+    unfolding isOther
+    cleared-alike j v x y l a b = record {
+      low = omega (arith, cleared .low, y, b .low);
+      on = λ p f k.
+          let u : Seeking (λ i. p (le64 c (8 * i))) j n = subst (λ (z : ℕ). Seeking (λ i. p (le64 c (8 * i))) z n) (sym y) (cleared .on p f k) in
+          let o : p (le64 c (8 * (j - 1))) ≡ false = first-lowest (λ i. p (le64 c (8 * i))) j .below (j - 1) (omega (arith, u .none)) in
+          skipped-on (λ i. p (le64 c (8 * i))) j n x u (record { low = b .low; high = b .high; none = λ z m w. ap p (eqb-true (le64 c (8 * z)) v (not-false _ (b .none z m w)) ∙ a) ∙ o });
+    }
+
+pub last-fits : (c : List ℕ) (n j : ℕ) → 8 * n ≤ length c → length c < 2 ^ 64 → j ≤ n → Fits w64 (8 * (j - 1))
+last-fits c n j l m k = record { fits = omega arith }
+
+pub last-room : (c : List ℕ) (n i j : ℕ) → 8 * n ≤ length c → j ≤ n → i < j → 8 * (j - 1) + 8 ≤ length c
+last-room c n i j l k h = omega arith
 
 pub skip-on : (fault : TextFault) (names c : List ℕ) (start n r : ℕ) → length names ≤ 1048576 → Cleared names c start n r → Seeking (faultyEntry (asked fault names) c) start n → Seeking (faultyEntry (asked fault names) c) r n
-skip-on fault names c start n r m h k = h .on (faultyEntry (asked fault names) c) (λ i w. clear-entry fault names c i m w) k
+unfolding faultyEntry
+skip-on fault names c start n r m h k = h .on (λ v. asked fault names false (entryText v)) (λ i w. clear-entry fault names c i m w) k
 
 pub skip-next : (fault : TextFault) (names c : List ℕ) (i n r : ℕ) (b : Bool) → length names ≤ 1048576 → Seeking (faultyEntry (asked fault names) c) i n → i < n → b ≡ faultyEntry (asked fault names) c i → b ≡ false
     → Cleared names c (i + 1) n r → Seeking (faultyEntry (asked fault names) c) r n

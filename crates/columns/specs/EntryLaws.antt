@@ -11,7 +11,7 @@ use lib.ListN.{length}
 use Rattle.octets.specs.Octets.{le32, le64, part}
 use Rattle.octets.specs.Search.{first, any}
 use Rattle.octets.specs.SearchLaws.{first-agree, none-at, any-or, finds, misses}
-use Rattle.octets.specs.SkipLaws.{Skipped, side}
+use Rattle.octets.specs.SkipLaws.{Skipped, side, skipped-join}
 use Rattle.octets.specs.Texts.{textOf, outside}
 use Rattle.octets.specs.declared.Text.{Text}
 use Rattle.octets.specs.declared.Text.the-variants as text
@@ -58,11 +58,7 @@ module _ (c : List ℕ) (start : ℕ) where
 
   pub skipped-block : (plain n i r : ℕ) → Skipped (isPast c plain) start n i → 64 ≤ n - i → Within c i (i + 64) r → r ≤ plain → Skipped (isPast c plain) start n (i + 64)
   unfolding isPast
-  skipped-block plain n i r h l w e = record {
-    low = omega (arith, h .low);
-    high = omega (arith, h .high);
-    none = λ k x y. side k i (λ s. h .none k x s) (λ s. le-ltb plain (endOf (le64 c (8 * k))) (omega (arith, w k s y)));
-  }
+  skipped-block plain n i r h l w e = skipped-join (isPast c plain) start n i (i + 64) h (omega arith) (omega (arith, h .high)) (λ k s y. le-ltb plain (endOf (le64 c (8 * k))) (omega (arith, w k s y)))
 
 -- a fault that every text past the names has or has not as NULL has it, is that of the text by its two numbers: "a negative one spells no text"
 module _ (fault : Bool → Text → Bool) (b : Bool) (n : ℕ) (m : n ≤ 1048576) (e : fault false text.Null ≡ b) (f : (start len : ℕ) → n < start + len → fault false (text.Octets start len) ≡ b) where

@@ -2,13 +2,14 @@
 ghost use mathlib.Core.Path.{_≡_};
 ghost use Prim.Native.Nat.{_+_, _*_, _<_, _≤_, max};
 ghost use lib.ListN.{length};
+ghost use Rattle.octets.specs.Counts.{oneIf, Counted};
 ghost use Rattle.octets.specs.Search.{first};
 ghost use Rattle.octets.specs.SkipLaws.{Skipped};
 ghost use Rattle.utf8.specs.MarkLaws.{Marks};
 ghost use Rattle.listing.specs.Refusals.{checked};
 ghost use Rattle.listing.specs.FaultLaws.{asked};
 ghost use Rattle.columns.specs.Refusals.{faultyEntry, entryReasons};
-ghost use Rattle.columns.specs.Entries.{isPast, Within, Cleared};
+ghost use Rattle.columns.specs.Entries.{isPast, isOther, Within, Cleared};
 use listing::Checked;
 use listing::Cursor;
 use listing::TextFault;
@@ -18,7 +19,7 @@ use listing::TextOrder;
 const BLOCK: usize = 64;
 
 // How many are looked at one by one before a block is tried again.
-const STRETCH: usize = 512;
+const STRETCH: usize = 128;
 
 fn greatest(a: u32, b: u32) -> u32
     ensures { λ r. ⌜ (r ≡ max a b) × (r < 4294967296) ⌝ }
@@ -57,7 +58,47 @@ fn skip_plain(firsts: &[u8], plain: u64, start: usize, n: usize) -> usize
     i
 }
 
-// A place from start on, at most n, before which no entry is at fault.
+// 1 where an entry is another number, 0 where it is that one.
+fn one_unless(firsts: &[u8], v: u64, i: usize) -> u64
+    requires { ⌜ 8 * i + 8 ≤ length (now firsts) ⌝ }
+    ensures { λ r. ⌜ (r ≡ oneIf (isOther (now (firsts .entry)) v i)) × (r ≤ 1) ⌝ }
+{
+    if octets::long(firsts, 8 * i) == v {
+        return 0;
+    }
+    1
+}
+
+// How many entries are another number: a sum without a branch, of which a compiler makes few steps.
+fn count_others(firsts: &[u8], v: u64, start: usize, end: usize) -> u64
+    requires { ⌜ (start ≤ end) × (8 * end ≤ length (now firsts)) ⌝ }
+    ensures { λ r. ⌜ Counted (isOther (now (firsts .entry)) v) start end r ⌝ }
+{
+    let mut count = 0;
+    let mut i = start;
+    while i < end {
+        count += one_unless(firsts, v, i);
+        i += 1;
+    }
+    count
+}
+
+// A place from start on, at most n, before which every entry is one number.
+fn skip_alike(firsts: &[u8], v: u64, start: usize, n: usize) -> usize
+    requires { ⌜ (start ≤ n) × (8 * n ≤ length (now firsts)) ⌝ }
+    ensures { λ r. ⌜ Skipped (isOther (now (firsts .entry)) v) start n r ⌝ }
+{
+    let mut i = start;
+    while BLOCK <= n - i {
+        if count_others(firsts, v, i, i + BLOCK) != 0 {
+            return i;
+        }
+        i += BLOCK;
+    }
+    i
+}
+
+// A place from start on, at most n, before which no entry is at fault: past texts of ASCII octets, past some that are clear, and past repetitions of the last of these, as sorted tiles have them.
 fn skip_clear(firsts: &[u8], names: &[u8], marks: &[u32; 8193], start: usize, n: usize) -> usize
     requires { ⌜ Marks (now names) (now marks) × (length (now names) ≤ 1048576) × (start ≤ n) × (8 * n ≤ length (now firsts)) ⌝ }
     ensures { λ r. ⌜ Cleared (now (names .entry)) (now (firsts .entry)) start n r ⌝ }
@@ -67,7 +108,11 @@ fn skip_clear(firsts: &[u8], names: &[u8], marks: &[u32; 8193], start: usize, n:
         row: i,
         end: octets::least(n, i + STRETCH),
     };
-    listing::skip_clear(TextOrder::LengthFirst, 8, 0, 1, firsts, names, marks, from).row
+    let j = listing::skip_clear(TextOrder::LengthFirst, 8, 0, 1, firsts, names, marks, from).row;
+    if j <= i {
+        return j;
+    }
+    skip_alike(firsts, octets::long(firsts, 8 * (j - 1)), j, n)
 }
 
 fn is_faulty(fault: TextFault, names: &[u8], marks: &[u32; 8193], firsts: &[u8], i: usize) -> bool

@@ -4,7 +4,7 @@ ghost use mathlib.Core.List.{map};
 ghost use mathlib.Core.Bool.{_&&_};
 ghost use Prim.Native.Nat.{_+_, _*_, _≤_};
 ghost use lib.ListN.{length};
-ghost use Rattle.octets.specs.Counts.{oneIf, ofTwo, ofFour, ofEight};
+ghost use Rattle.octets.specs.Counts.{oneIf, Counted};
 ghost use Rattle.octets.specs.Numbers.{signed, eqZ};
 ghost use Rattle.octets.specs.SkipLaws.{Skipped};
 ghost use Rattle.pack.specs.Tables.{tileCount};
@@ -40,26 +40,18 @@ fn one(columns: &[u8], rows: &[u8], x: u64, y: u64, i: usize) -> u64
     )
 }
 
-fn two(columns: &[u8], rows: &[u8], x: u64, y: u64, i: usize) -> u64
-    requires { ⌜ (8 * i + 16 ≤ length (now columns)) × (8 * i + 16 ≤ length (now rows)) ⌝ }
-    ensures { λ r. ⌜ (r ≡ ofTwo (isEntry (now (columns .entry)) (now (rows .entry)) x y) i) × (r ≤ 2) ⌝ }
+// How many entries have column x and row y: a sum without a branch, of which a compiler makes few steps.
+fn count(columns: &[u8], rows: &[u8], x: u64, y: u64, start: usize, end: usize) -> u64
+    requires { ⌜ (start ≤ end) × (8 * end ≤ length (now columns)) × (8 * end ≤ length (now rows)) ⌝ }
+    ensures { λ r. ⌜ Counted (isEntry (now (columns .entry)) (now (rows .entry)) x y) start end r ⌝ }
 {
-    one(columns, rows, x, y, i) + one(columns, rows, x, y, i + 1)
-}
-
-fn four(columns: &[u8], rows: &[u8], x: u64, y: u64, i: usize) -> u64
-    requires { ⌜ (8 * i + 32 ≤ length (now columns)) × (8 * i + 32 ≤ length (now rows)) ⌝ }
-    ensures { λ r. ⌜ (r ≡ ofFour (isEntry (now (columns .entry)) (now (rows .entry)) x y) i) × (r ≤ 4) ⌝ }
-{
-    two(columns, rows, x, y, i) + two(columns, rows, x, y, i + 2)
-}
-
-// How many of eight entries have column x and row y: a sum without a branch, of which a compiler makes a few steps.
-fn eight(columns: &[u8], rows: &[u8], x: u64, y: u64, i: usize) -> u64
-    requires { ⌜ (8 * i + 64 ≤ length (now columns)) × (8 * i + 64 ≤ length (now rows)) ⌝ }
-    ensures { λ r. ⌜ r ≡ ofEight (isEntry (now (columns .entry)) (now (rows .entry)) x y) i ⌝ }
-{
-    four(columns, rows, x, y, i) + four(columns, rows, x, y, i + 4)
+    let mut count = 0;
+    let mut i = start;
+    while i < end {
+        count += one(columns, rows, x, y, i);
+        i += 1;
+    }
+    count
 }
 
 // An entry from start on, or n, before which none has column x and row y: as far as eight at a time go.
@@ -69,7 +61,7 @@ fn skip_eights(columns: &[u8], rows: &[u8], x: u64, y: u64, start: usize, n: usi
 {
     let mut i = start;
     while 8 <= n - i {
-        if eight(columns, rows, x, y, i) != 0 {
+        if count(columns, rows, x, y, i, i + 8) != 0 {
             return i;
         }
         i += 8;
