@@ -1,5 +1,5 @@
 -- The laws of the fill: an entry is two words of a tile row, and a column is filled entry by entry.
-use Prim.Native.Nat.{ℕ, _+_, _*_, _/_, _%_, _^_, _<_, _≤_}
+use Prim.Native.Nat.{ℕ, zero, suc, _+_, _*_, _/_, _%_, _^_, _<_, _≤_}
 use mathlib.Core.Path.{_≡_, refl, sym, ap, _∙_}
 use mathlib.Core.List.{List, [], _∷_, _++_}
 use mathlib.Core.Bool.{Bool, true, false, _||_, false≢true}
@@ -120,25 +120,30 @@ module _ (t : List ℕ) (k n : ℕ) (b : List ℕ) where
           ∙ ap (λ (xs : List ℕ). filled xs b) (ap (λ (w : ℕ). entriesOf t k i ++ entry w) f ∙ sym (gather-one i (λ j. entry (numberIn k (tileRow t j)))));
     }
 
--- the numbers of row i, each by its two words: the start of a name stands before its length
+-- ---- the numbers of row i, each by its two words: the start of a name stands before its length
+-- the three after the name
+pub number-at : (t : List ℕ) (at k : ℕ) → k < 3 → numberIn (suc k) (tileAt t at) ≡ le64 t (at + 8 * suc k)
+unfolding tileAt
+number-at t at zero l = refl
+number-at t at (suc zero) l = refl
+number-at t at (suc (suc zero)) l = refl
+number-at t at (suc (suc (suc k))) l = absurd (omega (arith, l))
+
 module _ (t : List ℕ) (n i : ℕ) (e : n ≡ rows 5 t) (l : i < n) where
-  row-there : ltb i (length t / 32) ≡ true
-  unfolding rows row
-  row-there = lt-ltb i (length t / 32) (omega arith)
+  pub tile-there : tileRow t i ≡ tileAt t (32 * i)
+  unfolding tileRow rows row
+  tile-there = simp (lt-ltb i (length t / 32) (omega (arith, e, l)))
 
   module _ (b c d : List ℕ) where
     pub firsts-more : Filling t 0 n i b c → d ≡ sets c (8 * i) (entry (le32 t (32 * i + 4) + 4294967296 * le32 t (32 * i + 0))) → Filling t 0 n (i + 1) b d
-    unfolding tileRow tileAt
-    firsts-more h f = let z : 32 * i + 0 ≡ 32 * i = omega arith in filling-next t 0 n b i c h (le32 t (32 * i + 4) + 4294967296 * le32 t (32 * i + 0)) d l f (simp (row-there, z) (omega arith))
+    unfolding tileAt
+    firsts-more h f =
+        let z : 32 * i + 0 ≡ 32 * i = omega arith in
+        filling-next t 0 n b i c h (le32 t (32 * i + 4) + 4294967296 * le32 t (32 * i + 0)) d l f (simp z (omega arith) ∙ ap (numberIn 0) (sym tile-there))
 
-    pub zooms-more : Filling t 1 n i b c → d ≡ sets c (8 * i) (entry (le32 t (32 * i + 8) + 4294967296 * le32 t (32 * i + 12))) → Filling t 1 n (i + 1) b d
-    unfolding tileRow tileAt le64
-    zooms-more h f = let z : 32 * i + 8 + 4 ≡ 32 * i + 12 = omega arith in filling-next t 1 n b i c h (le32 t (32 * i + 8) + 4294967296 * le32 t (32 * i + 12)) d l f (simp (row-there, z))
-
-    pub columns-more : Filling t 2 n i b c → d ≡ sets c (8 * i) (entry (le32 t (32 * i + 16) + 4294967296 * le32 t (32 * i + 20))) → Filling t 2 n (i + 1) b d
-    unfolding tileRow tileAt le64
-    columns-more h f = let z : 32 * i + 16 + 4 ≡ 32 * i + 20 = omega arith in filling-next t 2 n b i c h (le32 t (32 * i + 16) + 4294967296 * le32 t (32 * i + 20)) d l f (simp (row-there, z))
-
-    pub rows-more : Filling t 3 n i b c → d ≡ sets c (8 * i) (entry (le32 t (32 * i + 24) + 4294967296 * le32 t (32 * i + 28))) → Filling t 3 n (i + 1) b d
-    unfolding tileRow tileAt le64
-    rows-more h f = let z : 32 * i + 24 + 4 ≡ 32 * i + 28 = omega arith in filling-next t 3 n b i c h (le32 t (32 * i + 24) + 4294967296 * le32 t (32 * i + 28)) d l f (simp (row-there, z))
+    pub numbers-more : (k : ℕ) → k < 3 → Filling t (suc k) n i b c → d ≡ sets c (8 * i) (entry (le32 t (32 * i + 8 * suc k) + 4294967296 * le32 t (32 * i + (8 * suc k + 4)))) → Filling t (suc k) n (i + 1) b d
+    unfolding le64
+    numbers-more k m h f =
+        let z : 32 * i + (8 * suc k + 4) ≡ 32 * i + 8 * suc k + 4 = omega arith in
+        filling-next t (suc k) n b i c h (le32 t (32 * i + 8 * suc k) + 4294967296 * le32 t (32 * i + (8 * suc k + 4))) d l f
+        (ap (λ (at : ℕ). le32 t (32 * i + 8 * suc k) + 4294967296 * le32 t at) z ∙ sym (ap (numberIn (suc k)) tile-there ∙ number-at t (32 * i) k m))

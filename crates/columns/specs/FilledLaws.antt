@@ -3,9 +3,9 @@ use Prim.Native.Nat.{ℕ, zero, suc, _+_, _*_, _/_, _^_, _<_, _≤_}
 use mathlib.Core.Path.{_≡_, refl, sym, ap, _∙_}
 use mathlib.Core.List.{List, [], _∷_, _++_, append-assoc}
 use mathlib.Core.Bool.{Bool, true, false}
-use native.Mathlib.Nat.{mul-comm}
+use native.Mathlib.Nat.{mul-zero, mul-suc, mul-comm}
 use native.Mathlib.Omega.{arith}
-use borrow.Author.Tests.{le-leb, lt-ltb}
+use borrow.Author.Tests.{le-leb}
 use lib.ListN.{length, getD, take, drop, length-append, take-append-drop}
 use lib.Seq.{take-add, take-length, drop-drop}
 use Rattle.octets.specs.Octets.{le32, le64, part, word, filled}
@@ -28,7 +28,7 @@ use Rattle.pack.specs.Tables.{tileAt, tileRow, packIn, packOf}
 use Rattle.pack.specs.declared.Form.the-variants as form
 use Rattle.columns.specs.Refusals.{isShort, faultyEntry, entryReasons, columnReasons, columnOutcome, fillAnswer}
 use Rattle.columns.specs.ColumnRefusalLaws.{isClean, refused-same, column-rest, fill-long}
-use Rattle.columns.specs.FillLaws.{entry-words, word-low, entries-length, tile-inside}
+use Rattle.columns.specs.FillLaws.{entry-words, word-low, entries-length, tile-inside, number-at, tile-there}
 use Rattle.octets.specs.RunLaws.{part-there, part-octets, le32-small, le32-part}
 use Rattle.columns.specs.SpelledLaws.{Long, long-by, pack-by, outside-by, ill-by}
 use Rattle.columns.specs.Tiles.{numberIn, entry, entriesOf, column, given, FillOf, read, columnPack, spelledRow, spelledRows, respelled}
@@ -81,22 +81,22 @@ module _ (t : List ℕ) (p : (k : ℕ) → getD t k 0 < 256) where
       ∙ ap (λ (xs : List ℕ). xs ++ word (le32 t (at + 4))) (word-back t at p (omega arith)) ∙ ap (λ (xs : List ℕ). take 4 (drop at t) ++ xs) (word-back t (at + 4) p (omega arith) ∙ ap (take 4) (sym (drop-drop 4 at t)))
       ∙ sym (take-add 4 4 (drop at t))
 
-  -- the rows, one after the other
-  rows-back : (n : ℕ) → gather n (λ i. take 32 (drop (32 * i) t)) ≡ take (32 * n) t
-  rows-back zero = refl
-  rows-back (suc n) =
-      let e : 32 * suc n ≡ 32 * n + 32 = omega arith in
-      rw (e, take-add (32 * n) 32 t, rows-back n)
+-- pieces of the same length, one after the other
+pieces-back : (w n : ℕ) (t : List ℕ) → gather n (λ i. take w (drop (w * i) t)) ≡ take (w * n) t
+pieces-back w zero t = ap (λ (m : ℕ). take m t) (sym (mul-zero w))
+pieces-back w (suc n) t = rw (mul-suc w n, take-add (w * n) w t, pieces-back w n t)
 
-  row-pieces : (at : ℕ) → take 4 (drop at t) ++ (take 4 (drop (at + 4) t) ++ (take 8 (drop (at + 8) t) ++ (take 8 (drop (at + 16) t) ++ take 8 (drop (at + 24) t)))) ≡ take 32 (drop at t)
-  row-pieces at =
-      let a : at + 8 ≡ at + 4 + 4 = omega arith in
-      let b : at + 16 ≡ at + 8 + 8 = omega arith in
-      let c : at + 24 ≡ at + 16 + 8 = omega arith in
-      sym (take-add 4 28 (drop at t) ∙ ap (λ (xs : List ℕ). take 4 (drop at t) ++ xs) (ap (take 28) (drop-drop 4 at t) ∙ take-add 4 24 (drop (at + 4) t)
-      ∙ ap (λ (xs : List ℕ). take 4 (drop (at + 4) t) ++ xs) (ap (take 24) (drop-drop 4 (at + 4) t ∙ ap (λ (m : ℕ). drop m t) (sym a)) ∙ take-add 8 16 (drop (at + 8) t)
-      ∙ ap (λ (xs : List ℕ). take 8 (drop (at + 8) t) ++ xs) (ap (take 16) (drop-drop 8 (at + 8) t ∙ ap (λ (m : ℕ). drop m t) (sym b)) ∙ take-add 8 8 (drop (at + 16) t)
-      ∙ ap (λ (xs : List ℕ). take 8 (drop (at + 16) t) ++ xs) (ap (take 8) (drop-drop 8 (at + 16) t ∙ ap (λ (m : ℕ). drop m t) (sym c)))))))
+-- the pieces of a row: a name's two words and three numbers
+row-pieces : (at : ℕ) (t : List ℕ) → take 4 (drop at t) ++ (take 4 (drop (at + 4) t) ++ gather 3 (λ k. take 8 (drop (at + 8 * suc k) t))) ≡ take 32 (drop at t)
+row-pieces at t =
+    ap (λ (xs : List ℕ). take 4 (drop at t) ++ (take 4 (drop (at + 4) t) ++ xs)) (gather-agree 3 (λ k. take 8 (drop (at + 8 * suc k) t)) (λ k. take 8 (drop (8 * k) (drop (at + 8) t))) there ∙ pieces-back 8 3 (drop (at + 8) t))
+    ∙ sym (take-add 4 28 (drop at t) ∙ ap (λ (xs : List ℕ). take 4 (drop at t) ++ xs) (ap (take 28) (drop-drop 4 at t) ∙ take-add 4 24 (drop (at + 4) t) ∙ ap (λ (xs : List ℕ). take 4 (drop (at + 4) t) ++ take 24 xs) (drop-drop 4 (at + 4) t ∙ ap (λ (m : ℕ). drop m t) after)))
+  where
+    after : at + 4 + 4 ≡ at + 8
+    after = omega arith
+
+    there : (k : ℕ) → k < 3 → take 8 (drop (at + 8 * suc k) t) ≡ take 8 (drop (8 * k) (drop (at + 8) t))
+    there k l = let z : at + 8 * suc k ≡ at + 8 + 8 * k = omega arith in ap (λ (m : ℕ). take 8 (drop m t)) z ∙ ap (take 8) (sym (drop-drop (8 * k) (at + 8) t))
 
 -- ---- columns that hold the entries of n rows spell these rows
 module _ (t : List ℕ) (p : (k : ℕ) → getD t k 0 < 256) (cs : List (List ℕ)) (n : ℕ) (w : n ≡ rows 5 t) (r : Long n cs) (e : (k : ℕ) → k < 4 → part (nth cs k) 0 (8 * n) ≡ entriesOf t k n) where
@@ -104,38 +104,27 @@ module _ (t : List ℕ) (p : (k : ℕ) → getD t k 0 < 256) (cs : List (List �
     inside : 32 * i + 32 ≤ length t
     inside = tile-inside t n i w l
 
-    tile-there : tileRow t i ≡ tileAt t (32 * i)
-    unfolding tileRow rows row
-    tile-there = simp (lt-ltb i (length t / 32) (omega (arith, w, l)))
-
     first-number : numberIn 0 (tileRow t i) ≡ le32 t (32 * i + 4) + 4294967296 * le32 t (32 * i)
     unfolding tileAt
-    first-number = ap (numberIn 0) tile-there ∙ omega arith
+    first-number = ap (numberIn 0) (tile-there t n i w l) ∙ omega arith
 
     first-low : part (nth cs 0) (8 * i) 4 ≡ take 4 (drop (32 * i + 4) t)
     first-low =
-        low-part t (nth cs 0) 0 n i (r .firsts) (e 0 (omega arith)) l ∙ ap word first-number ∙ word-low (le32 t (32 * i + 4)) (le32 t (32 * i)) ∙ word-back t (32 * i + 4) p (omega (arith, inside))
+        low-part t (nth cs 0) 0 n i (r 0 (omega arith)) (e 0 (omega arith)) l ∙ ap word first-number ∙ word-low (le32 t (32 * i + 4)) (le32 t (32 * i)) ∙ word-back t (32 * i + 4) p (omega (arith, inside))
 
     first-high : part (nth cs 0) (8 * i + 4) 4 ≡ take 4 (drop (32 * i) t)
     first-high =
         let q : numberIn 0 (tileRow t i) / 4294967296 ≡ le32 t (32 * i) = omega (arith, first-number, le32-small t (32 * i + 4) p) in
-        high-part t (nth cs 0) 0 n i (r .firsts) (e 0 (omega arith)) l ∙ ap word q ∙ word-back t (32 * i) p (omega (arith, inside))
+        high-part t (nth cs 0) 0 n i (r 0 (omega arith)) (e 0 (omega arith)) l ∙ ap word q ∙ word-back t (32 * i) p (omega (arith, inside))
 
-    zoom-whole : part (nth cs 1) (8 * i) 8 ≡ take 8 (drop (32 * i + 8) t)
-    unfolding tileAt
-    zoom-whole = whole-part t (nth cs 1) 1 n i (r .zooms) (e 1 (omega arith)) l ∙ ap (λ (x : ℕ). entry x) (ap (numberIn 1) tile-there) ∙ long-back t p (32 * i + 8) (omega (arith, inside))
-
-    column-whole : part (nth cs 2) (8 * i) 8 ≡ take 8 (drop (32 * i + 16) t)
-    unfolding tileAt
-    column-whole = whole-part t (nth cs 2) 2 n i (r .columns) (e 2 (omega arith)) l ∙ ap (λ (x : ℕ). entry x) (ap (numberIn 2) tile-there) ∙ long-back t p (32 * i + 16) (omega (arith, inside))
-
-    row-whole : part (nth cs 3) (8 * i) 8 ≡ take 8 (drop (32 * i + 24) t)
-    unfolding tileAt
-    row-whole = whole-part t (nth cs 3) 3 n i (r .rows) (e 3 (omega arith)) l ∙ ap (λ (x : ℕ). entry x) (ap (numberIn 3) tile-there) ∙ long-back t p (32 * i + 24) (omega (arith, inside))
+    number-whole : (k : ℕ) → k < 3 → part (nth cs (suc k)) (8 * i) 8 ≡ take 8 (drop (32 * i + 8 * suc k) t)
+    number-whole k m =
+        whole-part t (nth cs (suc k)) (suc k) n i (r (suc k) (omega arith)) (e (suc k) (omega arith)) l ∙ ap (λ (x : ℕ). entry x) (ap (numberIn (suc k)) (tile-there t n i w l) ∙ number-at t (32 * i) k m)
+        ∙ long-back t p (32 * i + 8 * suc k) (omega (arith, inside))
 
     row-back : spelledRow cs i ≡ take 32 (drop (32 * i) t)
     unfolding spelledRow
-    row-back = rw (first-high, first-low, zoom-whole, column-whole, row-whole) (row-pieces t p (32 * i))
+    row-back = rw (first-high, first-low, gather-agree 3 (λ k. part (nth cs (suc k)) (8 * i) 8) (λ k. take 8 (drop (32 * i + 8 * suc k) t)) number-whole) (row-pieces (32 * i) t)
 
     -- and its two words are words
     word-small : (at «from» : ℕ) → at + 4 ≤ length (nth cs 0) → «from» + 4 ≤ length t → part (nth cs 0) at 4 ≡ take 4 (drop «from» t) → le32 (nth cs 0) at < 2 ^ 32
@@ -146,14 +135,14 @@ module _ (t : List ℕ) (p : (k : ℕ) → getD t k 0 < 256) (cs : List (List �
         omega (arith, a, b, le32-small (part t «from» 4) 0 (part-octets t «from» 4 p))
 
     pub first-small : le32 (nth cs 0) (8 * i) < 2 ^ 32
-    first-small = word-small (8 * i) (32 * i + 4) (omega (arith, r .firsts)) (omega (arith, inside)) first-low
+    first-small = word-small (8 * i) (32 * i + 4) (omega (arith, r 0 (omega arith))) (omega (arith, inside)) first-low
 
     pub second-small : le32 (nth cs 0) (8 * i + 4) < 2 ^ 32
-    second-small = word-small (8 * i + 4) (32 * i) (omega (arith, r .firsts)) (omega (arith, inside)) first-high
+    second-small = word-small (8 * i + 4) (32 * i) (omega (arith, r 0 (omega arith))) (omega (arith, inside)) first-high
 
   pub rows-spelled : length t ≡ 32 * n → spelledRows cs n ≡ t
   unfolding spelledRows
-  rows-spelled h = gather-agree n (spelledRow cs) (λ i. take 32 (drop (32 * i) t)) row-back ∙ rows-back t p n ∙ ap (λ (m : ℕ). take m t) (sym h) ∙ take-length t
+  rows-spelled h = gather-agree n (spelledRow cs) (λ i. take 32 (drop (32 * i) t)) row-back ∙ pieces-back 32 n t ∙ ap (λ (m : ℕ). take m t) (sym h) ∙ take-length t
 
 -- ---- of a listing
 module _ (s : List ℕ) (p : (k : ℕ) → getD s k 0 < 256) (cs : List (List ℕ)) (h : Holds s cs) where
@@ -243,15 +232,18 @@ filled-holds s bs cs h = record { long = kept; holds = each }
     put : (k : ℕ) → nth cs k ≡ filled (given (fillAnswer s bs) (table s 5) k) (nth bs k) → nth cs k ≡ filled (column (table s 5) k) (nth bs k)
     put k e = e ∙ ap (λ (x : Checked). filled (given x (table s 5) k) (nth bs k)) clean
 
-    same : (k : ℕ) → nth cs k ≡ filled (column (table s 5) k) (nth bs k) → 8 * rows 5 (table s 5) ≤ length (nth bs k) → length (nth cs k) ≡ length (nth bs k)
-    same k e l = ap length e ∙ length-filled (column (table s 5) k) (nth bs k) (omega (arith, column-length (table s 5) k))
+    is : (k : ℕ) → k < 4 → nth cs k ≡ filled (column (table s 5) k) (nth bs k)
+    is zero l = put 0 (h .firsts)
+    is (suc zero) l = put 1 (h .zooms)
+    is (suc (suc zero)) l = put 2 (h .columns)
+    is (suc (suc (suc zero))) l = put 3 (h .rows)
+    is (suc (suc (suc (suc k)))) l = absurd (omega (arith, l))
+
+    same : (k : ℕ) → k < 4 → length (nth cs k) ≡ length (nth bs k)
+    same k l = ap length (is k l) ∙ length-filled (column (table s 5) k) (nth bs k) (omega (arith, column-length (table s 5) k, long k l))
 
     kept : isShort (rows 5 (table s 5)) cs ≡ false
-    kept = short-same (rows 5 (table s 5)) bs cs (same 0 (put 0 (h .firsts)) (long .firsts)) (same 1 (put 1 (h .zooms)) (long .zooms)) (same 2 (put 2 (h .columns)) (long .columns)) (same 3 (put 3 (h .rows)) (long .rows)) ∙ fill-long s bs (ap isClean clean)
+    kept = short-same (rows 5 (table s 5)) bs cs (same 0 (omega arith)) (same 1 (omega arith)) (same 2 (omega arith)) (same 3 (omega arith)) ∙ fill-long s bs (ap isClean clean)
 
     each : (k : ℕ) → k < 4 → part (nth cs k) 0 (8 * rows 5 (table s 5)) ≡ column (table s 5) k
-    each zero l = front-of (rows 5 (table s 5)) (column (table s 5) 0) (nth bs 0) (nth cs 0) (put 0 (h .firsts)) (column-length (table s 5) 0) (long .firsts)
-    each (suc zero) l = front-of (rows 5 (table s 5)) (column (table s 5) 1) (nth bs 1) (nth cs 1) (put 1 (h .zooms)) (column-length (table s 5) 1) (long .zooms)
-    each (suc (suc zero)) l = front-of (rows 5 (table s 5)) (column (table s 5) 2) (nth bs 2) (nth cs 2) (put 2 (h .columns)) (column-length (table s 5) 2) (long .columns)
-    each (suc (suc (suc zero))) l = front-of (rows 5 (table s 5)) (column (table s 5) 3) (nth bs 3) (nth cs 3) (put 3 (h .rows)) (column-length (table s 5) 3) (long .rows)
-    each (suc (suc (suc (suc k)))) l = absurd (omega (arith, l))
+    each k l = front-of (rows 5 (table s 5)) (column (table s 5) k) (nth bs k) (nth cs k) (is k l) (column-length (table s 5) k) (long k l)

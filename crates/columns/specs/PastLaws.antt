@@ -1,11 +1,10 @@
 -- Entries past the tile count are not read: they change no answer.
-use Prim.Native.Nat.{ℕ, _+_, _*_, _<_}
+use Prim.Native.Nat.{ℕ, _<_}
 use mathlib.Core.Path.{_≡_, sym, ap, _∙_}
 use mathlib.Core.List.{List, [], _∷_, _++_}
 use mathlib.Core.Bool.{Bool, false}
 use native.Mathlib.Omega.{arith}
 use lib.ListN.{length}
-use Rattle.octets.specs.Octets.{le64}
 use Rattle.octets.specs.Search.{first, any}
 use Rattle.octets.specs.SearchLaws.{first-agree, any-agree}
 use Rattle.octets.specs.Slices.{nth}
@@ -16,17 +15,14 @@ use Rattle.listing.specs.Refusals.{Reason, ill, decide}
 use Rattle.listing.specs.RefusalLaws.{reasons}
 use Rattle.listing.specs.declared.Outcome.the-variants.{Accepted}
 use Rattle.columns.specs.Refusals.{isShort, entryText, faultyEntry, entryReason, entryReasons, columnReasons, columnOutcome}
-use Rattle.octets.specs.RunLaws.{le64-part}
-use Rattle.columns.specs.SpelledLaws.{long-by}
+use Rattle.columns.specs.SpelledLaws.{long-by, read-number}
 use Rattle.columns.specs.Tiles.{read, columnTables, columnPack}
 
 module _ (s : List ℕ) where
   -- a fault of an entry that is read
   fault-read : (fault : Bool → Text → Bool) (cs : List (List ℕ)) (i : ℕ) → isShort (rows 5 (table s 5)) cs ≡ false → i < rows 5 (table s 5) → faultyEntry fault (nth cs 0) i ≡ faultyEntry fault (read s cs 0) i
   unfolding faultyEntry read
-  fault-read fault cs i h l =
-      let z : 0 + 8 * i ≡ 8 * i = omega arith in
-      ap (λ (v : ℕ). fault false (entryText v)) (sym (le64-part (nth cs 0) 0 (8 * rows 5 (table s 5)) (8 * i) (omega (arith, long-by (rows 5 (table s 5)) cs h .firsts)) (omega arith) ∙ ap (le64 (nth cs 0)) z))
+  fault-read fault cs i h l = ap (λ (v : ℕ). fault false (entryText v)) (sym (read-number cs (rows 5 (table s 5)) (long-by (rows 5 (table s 5)) cs h) i l 0 (omega arith)))
 
   -- "entries past the tile count": two lots of columns, none short, with the same entries before it
   module _ (cs ds : List (List ℕ)) (g : isShort (rows 5 (table s 5)) cs ≡ false) (h : isShort (rows 5 (table s 5)) ds ≡ false) (e : (k : ℕ) → k < 4 → read s cs k ≡ read s ds k) where

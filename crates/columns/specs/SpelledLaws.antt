@@ -1,5 +1,5 @@
 -- "Other column contents are judged as the tile rows they spell": the pack of columns is that of the rows, and 7 and 13 of the entries are those that the reader finds in these rows.
-use Prim.Native.Nat.{ℕ, _+_, _*_, _/_, _^_, _<_, _≤_}
+use Prim.Native.Nat.{ℕ, zero, suc, _+_, _*_, _/_, _^_, _<_, _≤_}
 use mathlib.Core.Path.{_≡_, refl, sym, ap, _∙_}
 use mathlib.Core.List.{List, _++_}
 use mathlib.Core.Bool.{Bool, true, false, cond}
@@ -28,21 +28,25 @@ use Rattle.octets.specs.RunLaws.{le32-small, le32-front, le32-behind, length-pa
 use Rattle.columns.specs.Tiles.{read, columnTables, columnPack, spelledRow, spelledRows, respelled}
 
 -- each of four columns has room for n entries
-pub record Long (n : ℕ) (cs : List (List ℕ)) : Type 0 where
-  pub firsts : 8 * n ≤ length (nth cs 0)
-  pub zooms : 8 * n ≤ length (nth cs 1)
-  pub columns : 8 * n ≤ length (nth cs 2)
-  pub rows : 8 * n ≤ length (nth cs 3)
+abbrev pub Long : ℕ → List (List ℕ) → Type 0
+Long n cs = (k : ℕ) → k < 4 → 8 * n ≤ length (nth cs k)
 
 pub long-by : (n : ℕ) (cs : List (List ℕ)) → isShort n cs ≡ false → Long n cs
 unfolding isShort entries
-long-by n cs h = record { firsts = room (nth cs 0) (w .0); zooms = room (nth cs 1) (w .1); columns = room (nth cs 2) (w .2); rows = room (nth cs 3) (w .3) }
+long-by n cs h = each
   where
     w : (ltb (length (nth cs 0) / 8) n ≡ false) × (ltb (length (nth cs 1) / 8) n ≡ false) × (ltb (length (nth cs 2) / 8) n ≡ false) × (ltb (length (nth cs 3) / 8) n ≡ false)
     w = or-none (ltb (length (nth cs 0) / 8) n) (ltb (length (nth cs 1) / 8) n) (ltb (length (nth cs 2) / 8) n) (ltb (length (nth cs 3) / 8) n) h
 
     room : (c : List ℕ) → ltb (length c / 8) n ≡ false → 8 * n ≤ length c
     room c e = omega (arith, ltb-false (length c / 8) n e)
+
+    each : (k : ℕ) → k < 4 → 8 * n ≤ length (nth cs k)
+    each zero l = room (nth cs 0) (w .0)
+    each (suc zero) l = room (nth cs 1) (w .1)
+    each (suc (suc zero)) l = room (nth cs 2) (w .2)
+    each (suc (suc (suc zero))) l = room (nth cs 3) (w .3)
+    each (suc (suc (suc (suc k)))) l = absurd (omega (arith, l))
 
 -- ---- the words of the rows that columns spell
 module _ (cs : List (List ℕ)) (n : ℕ) (r : Long n cs) where
@@ -53,69 +57,41 @@ module _ (cs : List (List ℕ)) (n : ℕ) (r : Long n cs) where
     abbrev p₁ : List ℕ
     p₁ = part (nth cs 0) (8 * i) 4
 
-    abbrev p₂ : List ℕ
-    p₂ = part (nth cs 1) (8 * i) 8
-
-    abbrev p₃ : List ℕ
-    p₃ = part (nth cs 2) (8 * i) 8
-
-    abbrev p₄ : List ℕ
-    p₄ = part (nth cs 3) (8 * i) 8
+    abbrev number : ℕ → List ℕ
+    number k = part (nth cs (suc k)) (8 * i) 8
 
     l₀ : length p₀ ≡ 4
-    l₀ = length-part (nth cs 0) (8 * i + 4) 4 (omega (arith, r .firsts))
+    l₀ = length-part (nth cs 0) (8 * i + 4) 4 (omega (arith, r 0 (omega arith)))
 
     l₁ : length p₁ ≡ 4
-    l₁ = length-part (nth cs 0) (8 * i) 4 (omega (arith, r .firsts))
+    l₁ = length-part (nth cs 0) (8 * i) 4 (omega (arith, r 0 (omega arith)))
 
-    l₂ : length p₂ ≡ 8
-    l₂ = length-part (nth cs 1) (8 * i) 8 (omega (arith, r .zooms))
-
-    l₃ : length p₃ ≡ 8
-    l₃ = length-part (nth cs 2) (8 * i) 8 (omega (arith, r .columns))
-
-    l₄ : length p₄ ≡ 8
-    l₄ = length-part (nth cs 3) (8 * i) 8 (omega (arith, r .rows))
+    number-length : (k : ℕ) → k < 3 → length (number k) ≡ 8
+    number-length k m = length-part (nth cs (suc k)) (8 * i) 8 (omega (arith, r (suc k) (omega arith)))
 
     row-length : length (spelledRow cs i) ≡ 32
     unfolding spelledRow
-    row-length =
-        length-append p₀ (p₁ ++ (p₂ ++ (p₃ ++ p₄)))
-        ∙ omega (arith, l₀, l₁, l₂, l₃, l₄, length-append p₁ (p₂ ++ (p₃ ++ p₄)), length-append p₂ (p₃ ++ p₄), length-append p₃ p₄)
+    row-length = length-append p₀ (p₁ ++ gather 3 number) ∙ omega (arith, l₀, l₁, length-append p₁ (gather 3 number), gather-size 3 8 number number-length)
 
     row-start : le32 (spelledRow cs i) 0 ≡ le32 (nth cs 0) (8 * i + 4)
     unfolding spelledRow
     row-start =
         let z : 8 * i + 4 + 0 ≡ 8 * i + 4 = omega arith in
-        le32-front p₀ (p₁ ++ (p₂ ++ (p₃ ++ p₄))) 0 (omega (arith, l₀)) ∙ le32-part (nth cs 0) (8 * i + 4) 4 0 (omega (arith, r .firsts)) (omega arith) ∙ ap (le32 (nth cs 0)) z
+        le32-front p₀ (p₁ ++ gather 3 number) 0 (omega (arith, l₀)) ∙ le32-part (nth cs 0) (8 * i + 4) 4 0 (omega (arith, r 0 (omega arith))) (omega arith) ∙ ap (le32 (nth cs 0)) z
 
     row-len : le32 (spelledRow cs i) 4 ≡ le32 (nth cs 0) (8 * i)
     unfolding spelledRow
     row-len =
         let z : 8 * i + 0 ≡ 8 * i = omega arith in
-        le32-behind p₀ (p₁ ++ (p₂ ++ (p₃ ++ p₄))) 4 0 l₀ ∙ le32-front p₁ (p₂ ++ (p₃ ++ p₄)) 0 (omega (arith, l₁)) ∙ le32-part (nth cs 0) (8 * i) 4 0 (omega (arith, r .firsts)) (omega arith) ∙ ap (le32 (nth cs 0)) z
+        le32-behind p₀ (p₁ ++ gather 3 number) 4 0 l₀ ∙ le32-front p₁ (gather 3 number) 0 (omega (arith, l₁)) ∙ le32-part (nth cs 0) (8 * i) 4 0 (omega (arith, r 0 (omega arith))) (omega arith) ∙ ap (le32 (nth cs 0)) z
 
     -- of the other three the lower word, at 0, and the upper one, at 4
-    row-zoom : (at : ℕ) → at + 4 ≤ 8 → le32 (spelledRow cs i) (8 + at) ≡ le32 (nth cs 1) (8 * i + at)
+    row-number : (k at : ℕ) → k < 3 → at + 4 ≤ 8 → le32 (spelledRow cs i) (8 + (k * 8 + at)) ≡ le32 (nth cs (suc k)) (8 * i + at)
     unfolding spelledRow
-    row-zoom at m =
-        let z : 8 + at ≡ 4 + (4 + at) = omega arith in
-        ap (le32 (p₀ ++ (p₁ ++ (p₂ ++ (p₃ ++ p₄))))) z ∙ le32-behind p₀ (p₁ ++ (p₂ ++ (p₃ ++ p₄))) 4 (4 + at) l₀ ∙ le32-behind p₁ (p₂ ++ (p₃ ++ p₄)) 4 at l₁
-        ∙ le32-front p₂ (p₃ ++ p₄) at (omega (arith, l₂)) ∙ le32-part (nth cs 1) (8 * i) 8 at (omega (arith, r .zooms)) m
-
-    row-column : (at : ℕ) → at + 4 ≤ 8 → le32 (spelledRow cs i) (16 + at) ≡ le32 (nth cs 2) (8 * i + at)
-    unfolding spelledRow
-    row-column at m =
-        let z : 16 + at ≡ 4 + (4 + (8 + at)) = omega arith in
-        ap (le32 (p₀ ++ (p₁ ++ (p₂ ++ (p₃ ++ p₄))))) z ∙ le32-behind p₀ (p₁ ++ (p₂ ++ (p₃ ++ p₄))) 4 (4 + (8 + at)) l₀ ∙ le32-behind p₁ (p₂ ++ (p₃ ++ p₄)) 4 (8 + at) l₁ ∙ le32-behind p₂ (p₃ ++ p₄) 8 at l₂
-        ∙ le32-front p₃ p₄ at (omega (arith, l₃)) ∙ le32-part (nth cs 2) (8 * i) 8 at (omega (arith, r .columns)) m
-
-    row-row : (at : ℕ) → at + 4 ≤ 8 → le32 (spelledRow cs i) (24 + at) ≡ le32 (nth cs 3) (8 * i + at)
-    unfolding spelledRow
-    row-row at m =
-        let z : 24 + at ≡ 4 + (4 + (8 + (8 + at))) = omega arith in
-        ap (le32 (p₀ ++ (p₁ ++ (p₂ ++ (p₃ ++ p₄))))) z ∙ le32-behind p₀ (p₁ ++ (p₂ ++ (p₃ ++ p₄))) 4 (4 + (8 + (8 + at))) l₀ ∙ le32-behind p₁ (p₂ ++ (p₃ ++ p₄)) 4 (8 + (8 + at)) l₁
-        ∙ le32-behind p₂ (p₃ ++ p₄) 8 (8 + at) l₂ ∙ le32-behind p₃ p₄ 8 at l₃ ∙ le32-part (nth cs 3) (8 * i) 8 at (omega (arith, r .rows)) m
+    row-number k at m f =
+        let z : 8 + (k * 8 + at) ≡ 4 + (4 + (k * 8 + at)) = omega arith in
+        ap (le32 (p₀ ++ (p₁ ++ gather 3 number))) z ∙ le32-behind p₀ (p₁ ++ gather 3 number) 4 (4 + (k * 8 + at)) l₀ ∙ le32-behind p₁ (gather 3 number) 4 (k * 8 + at) l₁
+        ∙ le32-gather 3 8 k at number number-length m f ∙ le32-part (nth cs (suc k)) (8 * i) 8 at (omega (arith, r (suc k) (omega arith))) f
 
   spelled-length : length (spelledRows cs n) ≡ 32 * n
   unfolding spelledRows
@@ -133,44 +109,40 @@ module _ (cs : List (List ℕ)) (n : ℕ) (r : Long n cs) where
     spelled-len : le32 (spelledRows cs n) (32 * i + 4) ≡ le32 (nth cs 0) (8 * i)
     spelled-len = word-of 4 (omega arith) ∙ row-len i l
 
-    spelled-zoom : le64 (spelledRows cs n) (32 * i + 8) ≡ le64 (nth cs 1) (8 * i)
-    unfolding le64
-    spelled-zoom =
-        let z : 32 * i + 8 + 4 ≡ 32 * i + 12 = omega arith in
-        let w : 8 * i + 0 ≡ 8 * i = omega arith in
-        rw (z, word-of 8 (omega arith), word-of 12 (omega arith), row-zoom i l 0 (omega arith), row-zoom i l 4 (omega arith), w)
+    spelled-word : (k at : ℕ) → k < 3 → at + 4 ≤ 8 → le32 (spelledRows cs n) (32 * i + 8 * suc k + at) ≡ le32 (nth cs (suc k)) (8 * i + at)
+    spelled-word k at m f =
+        let z : 32 * i + 8 * suc k + at ≡ 32 * i + (8 + (k * 8 + at)) = omega arith in
+        ap (le32 (spelledRows cs n)) z ∙ word-of (8 + (k * 8 + at)) (omega arith) ∙ row-number i l k at m f
 
-    spelled-column : le64 (spelledRows cs n) (32 * i + 16) ≡ le64 (nth cs 2) (8 * i)
+    spelled-number : (k : ℕ) → k < 3 → le64 (spelledRows cs n) (32 * i + 8 * suc k) ≡ le64 (nth cs (suc k)) (8 * i)
     unfolding le64
-    spelled-column =
-        let z : 32 * i + 16 + 4 ≡ 32 * i + 20 = omega arith in
+    spelled-number k m =
+        let z : 32 * i + 8 * suc k ≡ 32 * i + 8 * suc k + 0 = omega arith in
         let w : 8 * i + 0 ≡ 8 * i = omega arith in
-        rw (z, word-of 16 (omega arith), word-of 20 (omega arith), row-column i l 0 (omega arith), row-column i l 4 (omega arith), w)
-
-    spelled-row : le64 (spelledRows cs n) (32 * i + 24) ≡ le64 (nth cs 3) (8 * i)
-    unfolding le64
-    spelled-row =
-        let z : 32 * i + 24 + 4 ≡ 32 * i + 28 = omega arith in
-        let w : 8 * i + 0 ≡ 8 * i = omega arith in
-        rw (z, word-of 24 (omega arith), word-of 28 (omega arith), row-row i l 0 (omega arith), row-row i l 4 (omega arith), w)
+        ap (λ (x : ℕ). x + 4294967296 * le32 (spelledRows cs n) (32 * i + 8 * suc k + 4)) (ap (le32 (spelledRows cs n)) z ∙ spelled-word k 0 m (omega arith) ∙ ap (le32 (nth cs (suc k))) w)
+        ∙ ap (λ (x : ℕ). le32 (nth cs (suc k)) (8 * i) + 4294967296 * x) (spelled-word k 4 m (omega arith))
 
     -- row i is entry i
     spelled-tile : le32 (nth cs 0) (8 * i) < 2 ^ 32 → tileAt (spelledRows cs n) (32 * i) ≡ entryAt (nth cs 0) (nth cs 1) (nth cs 2) (nth cs 3) (8 * i)
     unfolding tileAt entryAt
     spelled-tile h =
-        rw (spelled-start, spelled-len, spelled-zoom, spelled-column, spelled-row, start-of (nth cs 0) (8 * i) h, length-of (nth cs 0) (8 * i) h)
+        rw (spelled-start, spelled-len, spelled-number 0 (omega arith), spelled-number 1 (omega arith), spelled-number 2 (omega arith), start-of (nth cs 0) (8 * i) h, length-of (nth cs 0) (8 * i) h)
 
     -- what is read of the columns has the same entry
+    pub read-number : (k : ℕ) → k < 4 → le64 (part (nth cs k) 0 (8 * n)) (8 * i) ≡ le64 (nth cs k) (8 * i)
+    read-number k m = let z : 0 + 8 * i ≡ 8 * i = omega arith in le64-part (nth cs k) 0 (8 * n) (8 * i) (omega (arith, r k m)) (omega arith) ∙ ap (le64 (nth cs k)) z
+
     read-tile : entryAt (part (nth cs 0) 0 (8 * n)) (part (nth cs 1) 0 (8 * n)) (part (nth cs 2) 0 (8 * n)) (part (nth cs 3) 0 (8 * n)) (8 * i) ≡ entryAt (nth cs 0) (nth cs 1) (nth cs 2) (nth cs 3) (8 * i)
     unfolding entryAt
-    read-tile =
-        let z : 0 + 8 * i ≡ 8 * i = omega arith in
-        rw (le64-part (nth cs 0) 0 (8 * n) (8 * i) (omega (arith, r .firsts)) (omega arith), le64-part (nth cs 1) 0 (8 * n) (8 * i) (omega (arith, r .zooms)) (omega arith), le64-part (nth cs 2) 0 (8 * n) (8 * i) (omega (arith, r .columns)) (omega arith), le64-part (nth cs 3) 0 (8 * n) (8 * i) (omega (arith, r .rows)) (omega arith), z)
+    read-tile = rw (read-number 0 (omega arith), read-number 1 (omega arith), read-number 2 (omega arith), read-number 3 (omega arith))
 
   -- of each column n entries are read
+  read-length : (k : ℕ) → k < 4 → length (part (nth cs k) 0 (8 * n)) ≡ 8 * n
+  read-length k m = length-part (nth cs k) 0 (8 * n) (omega (arith, r k m))
+
   read-count : entryCount (part (nth cs 0) 0 (8 * n)) (part (nth cs 1) 0 (8 * n)) (part (nth cs 2) 0 (8 * n)) (part (nth cs 3) 0 (8 * n)) ≡ n
   unfolding entryCount entries
-  read-count = omega (arith, length-part (nth cs 0) 0 (8 * n) (omega (arith, r .firsts)), length-part (nth cs 1) 0 (8 * n) (omega (arith, r .zooms)), length-part (nth cs 2) 0 (8 * n) (omega (arith, r .columns)), length-part (nth cs 3) 0 (8 * n) (omega (arith, r .rows)))
+  read-count = omega (arith, read-length 0 (omega arith), read-length 1 (omega arith), read-length 2 (omega arith), read-length 3 (omega arith))
 
   spelled-count : length (spelledRows cs n) / 32 ≡ n
   spelled-count = omega (arith, spelled-length)

@@ -58,7 +58,7 @@ columnPack s cs = packIn form.Columns (columnTables s cs)
 
 -- ---- "the tile rows they spell": of each entry of the first column the start and then the length, and the other three entries as they are
 unfoldable pub spelledRow : List (List ℕ) → ℕ → List ℕ
-spelledRow cs i = part (nth cs 0) (8 * i + 4) 4 ++ (part (nth cs 0) (8 * i) 4 ++ (part (nth cs 1) (8 * i) 8 ++ (part (nth cs 2) (8 * i) 8 ++ part (nth cs 3) (8 * i) 8)))
+spelledRow cs i = part (nth cs 0) (8 * i + 4) 4 ++ (part (nth cs 0) (8 * i) 4 ++ gather 3 (λ k. part (nth cs (suc k)) (8 * i) 8))
 
 unfoldable pub spelledRows : List (List ℕ) → ℕ → List ℕ
 spelledRows cs n = gather n (spelledRow cs)

@@ -36,22 +36,9 @@ pub ruleset rows = (row-there, row-past, needs)
 pub ruleset counted = (counted-there, counted-past, needs)
 
 -- each of four columns has room for an entry that all have
-module _ (a b c d : List ℕ) (i n : ℕ) where
-  pub room-first : n ≡ entryCount a b c d → i < n → 8 * i + 8 ≤ length a
-  unfolding entryCount entries
-  room-first e l = omega (arith, e, l)
-
-  pub room-second : n ≡ entryCount a b c d → i < n → 8 * i + 8 ≤ length b
-  unfolding entryCount entries
-  room-second e l = omega (arith, e, l)
-
-  pub room-third : n ≡ entryCount a b c d → i < n → 8 * i + 8 ≤ length c
-  unfolding entryCount entries
-  room-third e l = omega (arith, e, l)
-
-  pub room-fourth : n ≡ entryCount a b c d → i < n → 8 * i + 8 ≤ length d
-  unfolding entryCount entries
-  room-fourth e l = omega (arith, e, l)
+pub room-entry : (a b c d : List ℕ) (i n : ℕ) → n ≡ entryCount a b c d → i < n → (8 * i + 8 ≤ length a) × (8 * i + 8 ≤ length b) × (8 * i + 8 ≤ length c) × (8 * i + 8 ≤ length d)
+unfolding entryCount entries
+room-entry a b c d i n e l = (omega (arith, e, l), omega (arith, e, l), omega (arith, e, l), omega (arith, e, l))
 
 -- a tile, by the form in which tiles stand
 module _ (f : Form) (ts : List (List ℕ)) (i : ℕ) (r : TileRow) where

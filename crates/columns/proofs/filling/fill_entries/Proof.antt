@@ -1,6 +1,7 @@
 -- `columns::filling::fill_entries` meets its contract.
 use Prim.Native.Nat.{_-_}
-use Rattle.columns.specs.FillLaws.{Filling, tile-inside, filling-none, filling-length, filling-room, filling-whole, firsts-more, zooms-more, columns-more, rows-more}
+use native.Mathlib.Omega.{arith}
+use Rattle.columns.specs.FillLaws.{Filling, tile-inside, filling-none, filling-length, filling-room, filling-whole, firsts-more, numbers-more}
 use borrow.Author.Needs.{needs}
 use Rattle.columns.proofs.filling.fill_entries.Statement.{statement}
 use Rattle.columns.proofs.filling.fill_entries.Tie as tie
@@ -31,8 +32,12 @@ fill-entries-spec =
     let c₁ = c₂ .before .before .before .before in
     let turn = c₁ .before .before in
     let at = turn .before in
-    let count = at .before .before .before .before .before .before .pre .count in
-    (firsts-more _ _ _ count (turn .loop-test .taken) _ _ _ (at .loop .inv .0) (c₁ .copy-entry .ensures), zooms-more _ _ _ count (turn .loop-test .taken) _ _ _ (at .loop .inv .1) (c₂ .copy-entry2 .ensures), columns-more _ _ _ count (turn .loop-test .taken) _ _ _ (at .loop .inv .2) (c₃ .copy-entry3 .ensures), rows-more _ _ _ count (turn .loop-test .taken) _ _ _ (at .loop .inv .3) (c₄ .copy-entry4 .ensures)))
+    let count = at .before .before .before .before .before .before .pre .count in (
+      firsts-more _ _ _ count (turn .loop-test .taken) _ _ _ (at .loop .inv .0) (c₁ .copy-entry .ensures),
+      numbers-more _ _ _ count (turn .loop-test .taken) _ _ _ 0 (omega arith) (at .loop .inv .1) (c₂ .copy-entry2 .ensures),
+      numbers-more _ _ _ count (turn .loop-test .taken) _ _ _ 1 (omega arith) (at .loop .inv .2) (c₃ .copy-entry3 .ensures),
+      numbers-more _ _ _ count (turn .loop-test .taken) _ _ _ 2 (omega arith) (at .loop .inv .3) (c₄ .copy-entry4 .ensures),
+    ))
     (λ c. search (filling-length, needs))
     (λ c. search (filling-length, needs))
     (λ c. search (filling-length, needs))

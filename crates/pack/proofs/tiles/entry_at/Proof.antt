@@ -1,7 +1,7 @@
 -- `pack::tiles::entry_at` meets its contract.
 use Rattle.pack.specs.Columns.{entries, entryCount}
 use Rattle.pack.specs.Tables.{entryRow}
-use Rattle.pack.proofs.Laws.{room-first, room-second, room-third, room-fourth, counted}
+use Rattle.pack.proofs.Laws.{room-entry, counted}
 use borrow.Author.Needs.{needs}
 use Rattle.pack.proofs.tiles.entry_at.Statement.{statement}
 use Rattle.pack.proofs.tiles.entry_at.Tie as tie
@@ -12,7 +12,7 @@ entry-at-spec =
     tie.close
     (tie.spec (λ c κs. search needs)
     (λ c. search needs)
-    (λ c κs. search (room-first, room-second, room-third, room-fourth, needs))
+    (λ c κs. search (room-entry, needs))
     (λ c κs. search needs)
     (λ c. search counted)
     (λ c. search counted))
