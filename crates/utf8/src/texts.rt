@@ -214,11 +214,21 @@ fn is_filled(s: &[u8], marks: &[u32; 8193], start: u32, len: u32) -> bool
     false
 }
 
-// Whether a text is not well-formed.
+// Whether a text is not well-formed, octet by octet.
+fn is_read_ill(s: &[u8], start: u32, len: u32) -> bool
+    ensures { λ r. ⌜ r ≡ not (wellFormed (part (now (s .entry)) start len)) ⌝ }
+{
+    !is_well_formed(octets::part_of(s, start as usize, len as usize))
+}
+
+// Whether a text is not well-formed. One shorter than a cell is read sooner than it is shown.
 pub fn is_ill(s: &[u8], marks: &[u32; 8193], start: u32, len: u32) -> bool
     requires { ⌜ Marks (now s) (now marks) ⌝ }
     ensures { λ r. ⌜ r ≡ not (wellFormed (part (now (s .entry)) start len)) ⌝ }
 {
+    if len < 8 {
+        return is_read_ill(s, start, len);
+    }
     if is_plain(marks, start, len) {
         return false;
     }
@@ -228,5 +238,5 @@ pub fn is_ill(s: &[u8], marks: &[u32; 8193], start: u32, len: u32) -> bool
     if is_filled(s, marks, start, len) {
         return false;
     }
-    !is_well_formed(octets::part_of(s, start as usize, len as usize))
+    is_read_ill(s, start, len)
 }

@@ -8,5 +8,5 @@ pub is-ill-spec : {M : Type 1} → statement M
 is-ill-spec =
     tie.close
     (tie.spec
-    (λ c κs. search needs) (λ c. search (plain-not, needs)) (λ c κs. search needs) (λ c. search (clear-not, needs)) (λ c κs. search needs)
-    (λ c. search (known-not, needs)) (λ c κs. search needs) (λ c κs. search needs) (λ c. cc))
+    (λ c κs. search needs) (λ c. search needs) (λ c κs. search needs) (λ c. search (plain-not, needs)) (λ c κs. search needs) (λ c. search (clear-not, needs)) (λ c κs. search needs)
+    (λ c. search (known-not, needs)) (λ c κs. search needs) (λ c. search needs))
