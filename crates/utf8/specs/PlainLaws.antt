@@ -10,6 +10,7 @@ use borrow.Author.Tests.{le-leb}
 use lib.ListN.{length, drop, take, getD, length-take}
 use lib.Seq.{getD-drop, getD-take}
 use Rattle.octets.specs.Octets.{part}
+use Rattle.octets.specs.SkipLaws.{side}
 use Rattle.utf8.specs.Utf8.{size, wellFormed}
 use Rattle.utf8.specs.CharacterLaws.{one}
 use Rattle.utf8.specs.WellFormedLaws.{well-none, well-step}
@@ -20,6 +21,10 @@ pub record Plain (s : List ℕ) (n : ℕ) : Type 0 where
   pub within : n ≤ length s
   pub small : n < 4294967295
   pub each : (k : ℕ) → k < n → getD s k 0 < 128
+
+-- the octets from start up to end are at most r
+abbrev pub AtMost : List ℕ → ℕ → ℕ → ℕ → Type 0
+AtMost s start end r = (k : ℕ) → start ≤ k → k < end → getD s k 0 ≤ r
 
 ascii-well : (s : List ℕ) → ((k : ℕ) → k < length s → getD s k 0 < 128) → wellFormed s ≡ true
 ascii-well [] h = well-none [] refl
@@ -52,3 +57,17 @@ module _ (s : List ℕ) where
       | no g ↦ h .each k (lt-of-not-le g)
     ];
   }
+
+  -- some at a time, by the highest of them
+  module _ (start : ℕ) where
+    pub most-none : (r : ℕ) → AtMost s start start r
+    most-none r k l h = absurd (omega arith)
+
+    pub most-more : (i a b : ℕ) → AtMost s start i a → a ≤ b → getD s i 0 ≤ b → AtMost s start (i + 1) b
+    most-more i a b h p q k l m = side k i (λ n. omega (arith, h k l n)) (λ n. let e : k ≡ i = omega arith in omega (arith, q, ap (λ (j : ℕ). getD s j 0) e))
+
+    pub most-end : (i end r : ℕ) → AtMost s start i r → end ≤ i → AtMost s start end r
+    most-end i end r h l k a b = h k a (omega arith)
+
+  pub plain-block : (n r : ℕ) → Plain s n → n ≤ 1048576 → 64 ≤ length s - n → AtMost s n (n + 64) r → r ≤ 127 → Plain s (n + 64)
+  plain-block n r h m l a b = record { within = omega (arith, h .within); small = omega arith; each = λ k d. side k n (λ c. h .each k c) (λ c. omega (arith, a k c d)) }

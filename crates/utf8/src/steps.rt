@@ -5,7 +5,7 @@ ghost use Prim.Native.Nat.{_+_, _<_, _≤_};
 ghost use lib.ListN.{length, drop};
 ghost use Rattle.utf8.specs.Utf8.{size, wellFormed};
 ghost use Rattle.utf8.specs.StepLaws.{Step, Ascii, Low, Walking};
-ghost use Rattle.utf8.specs.PlainLaws.{Plain};
+ghost use Rattle.utf8.specs.PlainLaws.{Plain, AtMost};
 use crate::characters::size_at;
 
 // Whether the highest bit of each of a number's eight octets is 0: one test of the number, as it is compiled.
@@ -98,11 +98,48 @@ pub fn is_well_formed(s: &[u8]) -> bool
     walk(s, 0, s.len()) == s.len()
 }
 
-// How many octets are ASCII before one is not; those past the most that table 7 may have are not counted.
-pub fn plain_end(s: &[u8]) -> usize
+fn higher(a: u8, b: u8) -> u8
+    ensures { λ r. ⌜ (a ≤ r) × (b ≤ r) ⌝ }
+{
+    if a < b { b } else { a }
+}
+
+// The highest of some octets. A compiler makes few steps of it.
+fn highest(s: &[u8], start: usize, end: usize) -> u8
+    requires { ⌜ end ≤ length (now s) ⌝ }
+    ensures { λ r. ⌜ AtMost (now (s .entry)) start end r ⌝ }
+{
+    let mut high = 0;
+    let mut i = start;
+    while i < end {
+        high = higher(high, s[i]);
+        i += 1;
+    }
+    high
+}
+
+// How many octets are ASCII before one is not, as far as blocks of 64 go; those past the most that table 7 may have are not counted.
+fn plain_blocks(s: &[u8]) -> usize
     ensures { λ r. ⌜ Plain (now (s .entry)) r ⌝ }
 {
     let mut n = 0;
+    while 64 <= s.len() - n {
+        if 1048576 < n {
+            return n;
+        }
+        if 127 < highest(s, n, n + 64) {
+            return n;
+        }
+        n += 64;
+    }
+    n
+}
+
+// And then by steps.
+pub fn plain_end(s: &[u8]) -> usize
+    ensures { λ r. ⌜ Plain (now (s .entry)) r ⌝ }
+{
+    let mut n = plain_blocks(s);
     while n < s.len() {
         if 1048576 < n {
             return n;

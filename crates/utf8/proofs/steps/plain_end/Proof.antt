@@ -1,7 +1,7 @@
 -- `utf8::steps::plain_end` meets its contract.
 use Prim.Native.Nat.{_-_}
 use lib.ListN.{length}
-use Rattle.utf8.specs.PlainLaws.{Plain, plain-start, plain-more}
+use Rattle.utf8.specs.PlainLaws.{Plain, plain-more}
 use borrow.Author.Needs.{needs}
 use Rattle.utf8.proofs.steps.plain_end.Statement.{statement}
 use Rattle.utf8.proofs.steps.plain_end.Tie as tie
@@ -16,5 +16,5 @@ pub plain-end-spec : {M : Type 1} → statement M
 plain-end-spec =
     tie.close
     (tie.spec
-    Inv-loop μ-loop (λ c. search (plain-start, needs)) (λ c. search needs) (λ c κs. search needs) (λ c. search needs) (λ c. search needs)
+    Inv-loop μ-loop (λ c κs. search needs) (λ c. search needs) (λ c. search needs) (λ c κs. search needs) (λ c. search needs) (λ c. search needs)
     (λ c. search needs) (λ c. search (plain-more, needs)) (λ c. search needs))
