@@ -8,4 +8,4 @@ pub is-seen-spec : {M : Type 1} → statement M
 is-seen-spec =
     tie.close
     (tie.spec
-    (λ c κs. search needs) (λ c. λ e. search (clear-plain, needs)) (λ c κs. search needs) (λ c. λ e. search (c .before .is-in-head .ensures, needs)) (λ c κs. search needs) (λ c. search needs))
+    (λ c κs. search needs) (λ c. λ e. search (c .before .is-in-head .ensures, needs)) (λ c κs. search needs) (λ c. λ e. search (clear-plain, needs)) (λ c κs. search needs) (λ c. search needs))
