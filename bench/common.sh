@@ -32,9 +32,9 @@ difference() { awk -v a="$1" -v b="$2" 'BEGIN { print a - b }'; }
 # The least of each column over some lines of numbers.
 least() { awk '{ for (i = 1; i <= NF; i++) if (NR == 1 || $i < least[i]) least[i] = $i } END { for (i = 1; i <= NF; i++) printf "%s%s", least[i], i < NF ? " " : "\n" }'; }
 
-# What a lookup takes beyond the check of its input, the first two to the last two; none where no contents can be asked for.
+# What a lookup takes beyond the check of its input, the first two to the last two; nothing where 10 refuses it.
 scan_ratio() {
-  if [[ $kind == no-contents ]]; then
+  if [[ $kind == no-contents || $kind == longest ]]; then
     printf '%8s' -
   else
     ratio "$(difference "$1" "$2")" "$(difference "$3" "$4")"
