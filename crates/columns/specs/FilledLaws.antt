@@ -23,6 +23,7 @@ use Rattle.listing.specs.Refusals.{ill, faultyRow, outcome, isAccepted}
 use Rattle.listing.specs.RefusalLaws.{accepted-is}
 use Rattle.listing.specs.declared.Checked.{Checked}
 use Rattle.listing.specs.declared.Checked.the-variants.{Clean}
+use Rattle.listing.specs.declared.Format.the-variants.{Edition1}
 use Rattle.pack.specs.Columns.{entries}
 use Rattle.pack.specs.Tables.{tileAt, tileRow, packIn, packOf}
 use Rattle.pack.specs.declared.Form.the-variants as form
@@ -183,12 +184,12 @@ module _ (s : List ℕ) (p : (k : ℕ) → getD s k 0 < 256) (cs : List (List �
     entry-inside : (i : ℕ) → i < n → faultyEntry (outside (length (table s 7))) (nth cs 0) i ≡ false
     entry-inside i l =
         outside-by (table s 7) cs n i names-most long l (second-small (table s 5) octets cs n refl long entries-held i l) (first-small (table s 5) octets cs n refl long entries-held i l)
-        ∙ ap (λ (t : List ℕ). faultyRow (outside (length (table s 7))) 5 t i) spelled ∙ no-bad-row s a 5 i (omega arith) (omega arith) l
+        ∙ ap (λ (t : List ℕ). faultyRow Edition1 (outside (length (table s 7))) 5 t i) spelled ∙ no-bad-row s a 5 i (omega arith) (omega arith) l
 
     entry-well : (i : ℕ) → i < n → faultyEntry (ill (table s 7)) (nth cs 0) i ≡ false
     entry-well i l =
         ill-by (table s 7) cs n i names-most long l (second-small (table s 5) octets cs n refl long entries-held i l) (first-small (table s 5) octets cs n refl long entries-held i l)
-        ∙ ap (λ (t : List ℕ). faultyRow (ill (table s 7)) 5 t i) spelled ∙ no-ill-row s a 5 i (omega arith) (omega arith) l
+        ∙ ap (λ (t : List ℕ). faultyRow Edition1 (ill (table s 7)) 5 t i) spelled ∙ no-ill-row s a 5 i (omega arith) (omega arith) l
 
     held-accepted : columnOutcome s cs ≡ outcome s
     unfolding columnReasons entryReasons

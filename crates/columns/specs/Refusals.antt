@@ -16,6 +16,7 @@ use Rattle.listing.specs.Refusals.{Reason, ill, headerReasons, rowReasons, chec
 use Rattle.listing.specs.declared.Checked.{Checked}
 use Rattle.listing.specs.declared.Outcome.{Outcome}
 use Rattle.listing.specs.declared.Outcome.the-variants.{Accepted}
+use Rattle.listing.specs.declared.Format.the-variants.{Edition1}
 use Rattle.pack.specs.Columns.{entries}
 
 -- ---- 14: of four columns, cs, one has fewer than n entries
@@ -47,11 +48,11 @@ columnReasons t names cs = shortReason (rows 5 t) cs ∷ entryReasons names (nth
 
 -- of a report or a lookup from columns
 unfoldable pub columnOutcome : List ℕ → List (List ℕ) → Outcome
-columnOutcome s cs = decide ((headerReasons s ++ rowReasons (table s)) ++ columnReasons (table s 5) (table s 7) cs) (Accepted (layout s))
+columnOutcome s cs = decide ((headerReasons Edition1 s ++ rowReasons Edition1 (table s)) ++ columnReasons (table s 5) (table s 7) cs) (Accepted (layout s))
 
 -- of the fill
 unfoldable pub fillReasons : List ℕ → List (List ℕ) → List Reason
-fillReasons s cs = (headerReasons s ++ rowReasons (table s)) ++ (shortReason (rows 5 (table s 5)) cs ∷ [])
+fillReasons s cs = (headerReasons Edition1 s ++ rowReasons Edition1 (table s)) ++ (shortReason (rows 5 (table s 5)) cs ∷ [])
 
 unfoldable pub fillAnswer : List ℕ → List (List ℕ) → Checked
 fillAnswer s cs = checked (fillReasons s cs)

@@ -16,6 +16,7 @@ use Rattle.octets.specs.Texts.{textOf, textAt, outside}
 use Rattle.octets.specs.declared.Text.{Text}
 use Rattle.listing.specs.Listing.{row, table, tablesOf, rows}
 use Rattle.listing.specs.Refusals.{ill, textBase, textCount, nullCount, faultyText, faultyRow}
+use Rattle.listing.specs.declared.Format.the-variants.{Edition1}
 use Rattle.pack.specs.Rows.{Rows, Tile}
 use Rattle.pack.specs.Columns.{entries, entryAt, entryCount}
 use Rattle.pack.specs.Tables.{tileAt, tileRow, entryRow, tileCount, tileIn, tileOf, tilesIn, withTiles, referencesOf, contentsOf, setsOf, matricesOf, extensionsOf, packIn, packOf}
@@ -193,27 +194,27 @@ any-one p = by (p 0)
     by false = refl
 
 -- row i of some tile rows has a fault where its one text has
-pub tile-fault : (fault : Bool → Text → Bool) (t : List ℕ) (i : ℕ) → faultyRow fault 5 t i ≡ fault false (textOf (le32 t (32 * i)) (le32 t (32 * i + 4)))
+pub tile-fault : (fault : Bool → Text → Bool) (t : List ℕ) (i : ℕ) → faultyRow Edition1 fault 5 t i ≡ fault false (textOf (le32 t (32 * i)) (le32 t (32 * i + 4)))
 unfolding faultyRow faultyText textAt row textBase textCount nullCount
 tile-fault fault t i =
     let z : 32 * i + 0 + 8 * 0 ≡ 32 * i = omega arith in
-    any-one (faultyText fault 0 t (32 * i + 0)) ∙ ap (λ (k : ℕ). fault false (textOf (le32 t k) (le32 t (k + 4)))) z
+    any-one (faultyText fault 0 0 t (32 * i + 0)) ∙ ap (λ (k : ℕ). fault false (textOf (le32 t k) (le32 t (k + 4)))) z
 
 module _ (names : List ℕ) (cs : List (List ℕ)) (n i : ℕ) (m : length names ≤ 1048576) (r : Long n cs) (l : i < n) where
-  row-fault : (fault : Bool → Text → Bool) → faultyRow fault 5 (spelledRows cs n) i ≡ fault false (textOf (le32 (nth cs 0) (8 * i + 4)) (le32 (nth cs 0) (8 * i)))
+  row-fault : (fault : Bool → Text → Bool) → faultyRow Edition1 fault 5 (spelledRows cs n) i ≡ fault false (textOf (le32 (nth cs 0) (8 * i + 4)) (le32 (nth cs 0) (8 * i)))
   row-fault fault = tile-fault fault (spelledRows cs n) i ∙ ap (λ (k : ℕ). fault false (textOf k (le32 (spelledRows cs n) (32 * i + 4)))) (spelled-start cs n r i l) ∙ ap (λ (k : ℕ). fault false (textOf (le32 (nth cs 0) (8 * i + 4)) k)) (spelled-len cs n r i l)
 
   -- where the entry has a word for its start and one for its length
   module _ (p : le32 (nth cs 0) (8 * i + 4) < 2 ^ 32) (q : le32 (nth cs 0) (8 * i) < 2 ^ 32) where
-    pub outside-by : faultyEntry (outside (length names)) (nth cs 0) i ≡ faultyRow (outside (length names)) 5 (spelledRows cs n) i
+    pub outside-by : faultyEntry (outside (length names)) (nth cs 0) i ≡ faultyRow Edition1 (outside (length names)) 5 (spelledRows cs n) i
     outside-by = entry-outside names (nth cs 0) i m p q ∙ sym (row-fault (outside (length names)))
 
-    pub ill-by : faultyEntry (ill names) (nth cs 0) i ≡ faultyRow (ill names) 5 (spelledRows cs n) i
+    pub ill-by : faultyEntry (ill names) (nth cs 0) i ≡ faultyRow Edition1 (ill names) 5 (spelledRows cs n) i
     ill-by = entry-ill names (nth cs 0) i m p q ∙ sym (row-fault (ill names))
 
   -- "7 and 13 for a column entry that spells no allowed text": the reader finds the same in these rows
-  pub outside-same : ((k : ℕ) → getD (nth cs 0) k 0 < 256) → faultyEntry (outside (length names)) (nth cs 0) i ≡ faultyRow (outside (length names)) 5 (spelledRows cs n) i
+  pub outside-same : ((k : ℕ) → getD (nth cs 0) k 0 < 256) → faultyEntry (outside (length names)) (nth cs 0) i ≡ faultyRow Edition1 (outside (length names)) 5 (spelledRows cs n) i
   outside-same p = outside-by (le32-small (nth cs 0) (8 * i + 4) p) (le32-small (nth cs 0) (8 * i) p)
 
-  pub ill-same : ((k : ℕ) → getD (nth cs 0) k 0 < 256) → faultyEntry (ill names) (nth cs 0) i ≡ faultyRow (ill names) 5 (spelledRows cs n) i
+  pub ill-same : ((k : ℕ) → getD (nth cs 0) k 0 < 256) → faultyEntry (ill names) (nth cs 0) i ≡ faultyRow Edition1 (ill names) 5 (spelledRows cs n) i
   ill-same p = ill-by (le32-small (nth cs 0) (8 * i + 4) p) (le32-small (nth cs 0) (8 * i) p)

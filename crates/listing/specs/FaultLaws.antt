@@ -15,8 +15,10 @@ use Rattle.octets.specs.Texts.{textOf, textAt, nameAt, outside}
 use Rattle.octets.specs.declared.Name.{Name}
 use Rattle.octets.specs.declared.Text.{Text}
 use Rattle.utf8.specs.MarkLaws.{Clear}
-use Rattle.listing.specs.Listing.{row, rows}
-use Rattle.listing.specs.Refusals.{ill, textBase, textCount, nullCount, faultyText, faultyRow, lowestFaultyRow, faultyTable}
+use Rattle.listing.specs.Formats.{tableCount, tableNumber, rowIn, baseIn, textsIn, nullFrom, nullEnd}
+use Rattle.listing.specs.Listing.{rowsAs}
+use Rattle.listing.specs.Refusals.{ill, nullable, faultyText, faultyRow, lowestFaultyRow, faultyTable}
+use Rattle.listing.specs.declared.Format.{Format}
 use Rattle.listing.specs.declared.Cursor.{Cursor}
 use Rattle.listing.specs.declared.TextFault.{TextFault}
 use Rattle.listing.specs.declared.TextFault.the-variants.{Outside, Either}
@@ -32,11 +34,11 @@ abbrev pub asked : TextFault → List ℕ → Bool → Text → Bool
 asked Outside names = outside (length names)
 asked Either names = either (outside (length names)) (ill names)
 
--- a place: the lowest table with a text at fault, or 7, and its lowest such row
-pub record Found (fault : Bool → Text → Bool) (ts : ℕ → List ℕ) (k i : ℕ) : Type 0 where
-  pub table : k ≡ first (faultyTable fault ts) 7
+-- a place: the lowest table with a text at fault, or the last, and its lowest such row
+pub record Found (f : Format) (fault : Bool → Text → Bool) (ts : ℕ → List ℕ) (k i : ℕ) : Type 0 where
+  pub table : k ≡ first (faultyTable f fault ts) (tableCount f)
   pub some : 1 ≤ k
-  pub row : k < 7 → i ≡ lowestFaultyRow fault ts k
+  pub row : k < tableCount f → i ≡ lowestFaultyRow f fault ts k
 
 none-or : (a b : Bool) → (a || b) ≡ false → (a ≡ false) × (b ≡ false)
 none-or true b e = absurd (false≢true (sym e))
@@ -47,60 +49,64 @@ and-or true x y z e = e
 and-or false x y z e = refl
 
 -- ---- a search for one of two faults
-module _ (f g : Bool → Text → Bool) (ts : ℕ → List ℕ) where
-  row-or : (k i : ℕ) → faultyRow (either f g) k (ts k) i ≡ (faultyRow f k (ts k) i || faultyRow g k (ts k) i)
+module _ (x : Format) (f g : Bool → Text → Bool) (ts : ℕ → List ℕ) where
+  row-or : (k i : ℕ) → faultyRow x (either f g) k (ts k) i ≡ (faultyRow x f k (ts k) i || faultyRow x g k (ts k) i)
   unfolding faultyRow faultyText
-  row-or k i = any-or (faultyText f (nullCount k) (ts k) (row k * i + textBase k)) (faultyText g (nullCount k) (ts k) (row k * i + textBase k)) (textCount k)
+  row-or k i = any-or (faultyText f (nullFrom x k) (nullEnd x k) (ts k) (rowIn x k * i + baseIn x k)) (faultyText g (nullFrom x k) (nullEnd x k) (ts k) (rowIn x k * i + baseIn x k)) (textsIn x k)
 
-  rows-or : (k : ℕ) → any (faultyRow (either f g) k (ts k)) (rows k (ts k)) ≡ (any (faultyRow f k (ts k)) (rows k (ts k)) || any (faultyRow g k (ts k)) (rows k (ts k)))
-  rows-or k = any-agree (faultyRow (either f g) k (ts k)) (λ i. faultyRow f k (ts k) i || faultyRow g k (ts k) i) (rows k (ts k)) (λ i l. row-or k i)
-      ∙ any-or (faultyRow f k (ts k)) (faultyRow g k (ts k)) (rows k (ts k))
+  rows-or : (k : ℕ) → any (faultyRow x (either f g) k (ts k)) (rowsAs x k (ts k)) ≡ (any (faultyRow x f k (ts k)) (rowsAs x k (ts k)) || any (faultyRow x g k (ts k)) (rowsAs x k (ts k)))
+  rows-or k = any-agree (faultyRow x (either f g) k (ts k)) (λ i. faultyRow x f k (ts k) i || faultyRow x g k (ts k) i) (rowsAs x k (ts k)) (λ i l. row-or k i)
+      ∙ any-or (faultyRow x f k (ts k)) (faultyRow x g k (ts k)) (rowsAs x k (ts k))
 
-  table-or : (k : ℕ) → faultyTable (either f g) ts k ≡ (faultyTable f ts k || faultyTable g ts k)
+  table-or : (k : ℕ) → faultyTable x (either f g) ts k ≡ (faultyTable x f ts k || faultyTable x g ts k)
   unfolding faultyTable lowestFaultyRow any
-  table-or k = and-or (ltb 0 k) (any (faultyRow (either f g) k (ts k)) (rows k (ts k))) (any (faultyRow f k (ts k)) (rows k (ts k))) (any (faultyRow g k (ts k)) (rows k (ts k))) (rows-or k)
+  table-or k = and-or (ltb 0 k) (any (faultyRow x (either f g) k (ts k)) (rowsAs x k (ts k))) (any (faultyRow x f k (ts k)) (rowsAs x k (ts k))) (any (faultyRow x g k (ts k)) (rowsAs x k (ts k))) (rows-or k)
 
   -- where neither is found, neither is there
-  module _ (n i : ℕ) (h : Found (either f g) ts n i) (l : 7 ≤ n) where
-    none-either : (any (faultyTable f ts) 7 ≡ false) × (any (faultyTable g ts) 7 ≡ false)
+  module _ (n i last : ℕ) (d : last ≡ tableCount x) (h : Found x (either f g) ts n i) (l : last ≤ n) where
+    none-either : (any (faultyTable x f ts) (tableCount x) ≡ false) × (any (faultyTable x g ts) (tableCount x) ≡ false)
     none-either =
-        none-or (any (faultyTable f ts) 7) (any (faultyTable g ts) 7)
-        (sym (any-agree (faultyTable (either f g) ts) (λ k. faultyTable f ts k || faultyTable g ts k) 7 (λ k m. table-or k) ∙ any-or (faultyTable f ts) (faultyTable g ts) 7)
-        ∙ misses (faultyTable (either f g) ts) 7 n (h .table) l)
+        none-or (any (faultyTable x f ts) (tableCount x)) (any (faultyTable x g ts) (tableCount x))
+        (sym (any-agree (faultyTable x (either f g) ts) (λ k. faultyTable x f ts k || faultyTable x g ts k) (tableCount x) (λ k m. table-or k) ∙ any-or (faultyTable x f ts) (faultyTable x g ts) (tableCount x))
+        ∙ misses (faultyTable x (either f g) ts) (tableCount x) n (h .table) (omega (arith, d, l)))
 
-    pub none-first : Found f ts n i
-    none-first = record { table = h .table ∙ first-agree (faultyTable (either f g) ts) (faultyTable f ts) 7 same; some = h .some; row = λ m. absurd (omega (arith, l, m)) }
+    pub none-first : Found x f ts n i
+    none-first = record { table = h .table ∙ first-agree (faultyTable x (either f g) ts) (faultyTable x f ts) (tableCount x) same; some = h .some; row = λ m. absurd (omega (arith, d, l, m)) }
       where
-        same : (k : ℕ) → k < 7 → faultyTable (either f g) ts k ≡ faultyTable f ts k
+        same : (k : ℕ) → k < tableCount x → faultyTable x (either f g) ts k ≡ faultyTable x f ts k
         same k m =
-            let u : faultyTable f ts k ≡ false = none-at (faultyTable f ts) 7 (none-either .0) k m in
-            let v : faultyTable g ts k ≡ false = none-at (faultyTable g ts) 7 (none-either .1) k m in
+            let u : faultyTable x f ts k ≡ false = none-at (faultyTable x f ts) (tableCount x) (none-either .0) k m in
+            let v : faultyTable x g ts k ≡ false = none-at (faultyTable x g ts) (tableCount x) (none-either .1) k m in
             table-or k ∙ simp (u, v)
 
-    pub none-second : any (faultyTable g ts) 7 ≡ false
+    pub none-second : any (faultyTable x g ts) (tableCount x) ≡ false
     none-second = none-either .1
 
   -- where the first is not there, what is found is the second
-  module _ (n i k j : ℕ) (h : Found (either f g) ts n i) (o : Found f ts k j) (m : 7 ≤ k) where
-    no-first : (j : ℕ) → j < 7 → faultyTable f ts j ≡ false
-    no-first j l = first-lowest (faultyTable f ts) 7 .below j (omega (arith, o .table))
+  module _ (n i k j last : ℕ) (d : last ≡ tableCount x) (h : Found x (either f g) ts n i) (o : Found x f ts k j) (m : last ≤ k) where
+    no-first : (j : ℕ) → j < tableCount x → faultyTable x f ts j ≡ false
+    no-first j l = first-lowest (faultyTable x f ts) (tableCount x) .below j (omega (arith, o .table, d, m))
 
-    no-row : (j : ℕ) → 1 ≤ j → j < 7 → (i : ℕ) → i < rows j (ts j) → faultyRow f j (ts j) i ≡ false
+    no-row : (j : ℕ) → 1 ≤ j → j < tableCount x → (i : ℕ) → i < rowsAs x j (ts j) → faultyRow x f j (ts j) i ≡ false
     unfolding faultyTable lowestFaultyRow any
-    no-row j l b i n = none-at (faultyRow f j (ts j)) (rows j (ts j)) (simp (lt-ltb 0 j l) at (no-first j b)) i n
+    no-row j l b i n = none-at (faultyRow x f j (ts j)) (rowsAs x j (ts j)) (simp (lt-ltb 0 j l) at (no-first j b)) i n
 
-    pub second-table : n ≡ first (faultyTable g ts) 7
-    second-table = h .table ∙ first-agree (faultyTable (either f g) ts) (faultyTable g ts) 7 (λ j l. let u : faultyTable f ts j ≡ false = no-first j l in table-or j ∙ simp u)
+    second-table : n ≡ first (faultyTable x g ts) (tableCount x)
+    second-table = h .table ∙ first-agree (faultyTable x (either f g) ts) (faultyTable x g ts) (tableCount x) (λ j l. let u : faultyTable x f ts j ≡ false = no-first j l in table-or j ∙ simp u)
 
-    pub second-there : n < 7 → any (faultyTable g ts) 7 ≡ true
-    second-there l = finds (faultyTable g ts) 7 n second-table l
+    -- as a refusal names it
+    pub second-named : tableNumber x n ≡ tableNumber x (first (faultyTable x g ts) (tableCount x))
+    second-named = ap (tableNumber x) second-table
 
-    pub second-row : n < 7 → i ≡ lowestFaultyRow g ts (first (faultyTable g ts) 7)
+    pub second-there : n < last → any (faultyTable x g ts) (tableCount x) ≡ true
+    second-there l = finds (faultyTable x g ts) (tableCount x) n second-table (omega (arith, d, l))
+
+    pub second-row : n < last → i ≡ lowestFaultyRow x g ts (first (faultyTable x g ts) (tableCount x))
     unfolding lowestFaultyRow
     second-row l =
-        h .row l
-        ∙ first-agree (faultyRow (either f g) n (ts n)) (faultyRow g n (ts n)) (rows n (ts n)) (λ r b. let u : faultyRow f n (ts n) r ≡ false = no-row n (h .some) l r b in row-or n r ∙ simp u)
-        ∙ ap (λ (t : ℕ). first (faultyRow g t (ts t)) (rows t (ts t))) second-table
+        h .row (omega (arith, d, l))
+        ∙ first-agree (faultyRow x (either f g) n (ts n)) (faultyRow x g n (ts n)) (rowsAs x n (ts n)) (λ r b. let u : faultyRow x f n (ts n) r ≡ false = no-row n (h .some) (omega (arith, d, l)) r b in row-or n r ∙ simp u)
+        ∙ ap (λ (t : ℕ). first (faultyRow x g t (ts t)) (rowsAs x t (ts t))) second-table
 
 -- ---- rows that need no look: each has one text, and that is clear
 -- a clear text has no fault, whether it may be NULL or not
@@ -125,23 +131,23 @@ nameBy LengthFirst t at = record { start = le32 t (at + 4); len = le32 t at }
 abbrev pub ClearAt : TextOrder → List ℕ → List ℕ → ℕ → Type 0
 ClearAt o names t at = Clear names (nameBy o t at .start) (nameBy o t at .len)
 
-clear-row : (fault : TextFault) (names t : List ℕ) (nulls at : ℕ) → ClearAt StartFirst names t at → any (faultyText (asked fault names) nulls t at) 1 ≡ false
+clear-row : (fault : TextFault) (names t : List ℕ) (from end at : ℕ) → ClearAt StartFirst names t at → any (faultyText (asked fault names) from end t at) 1 ≡ false
 unfolding faultyText textAt
-clear-row fault names t nulls at h = any-none (faultyText (asked fault names) nulls t at) 1 (λ i l. let d : i ≡ 0 = omega arith in ap (faultyText (asked fault names) nulls t at) d ∙ only)
+clear-row fault names t from end at h = any-none (faultyText (asked fault names) from end t at) 1 (λ i l. let d : i ≡ 0 = omega arith in ap (faultyText (asked fault names) from end t at) d ∙ only)
   where
-    only : faultyText (asked fault names) nulls t at 0 ≡ false
-    only = let e : at + 8 * 0 ≡ at = omega arith in simp e (clear-text fault names (nameAt t at .start) (nameAt t at .len) (ltb 0 nulls) h)
+    only : faultyText (asked fault names) from end t at 0 ≡ false
+    only = let e : at + 8 * 0 ≡ at = omega arith in simp e (clear-text fault names (nameAt t at .start) (nameAt t at .len) (nullable from end 0) h)
 
 -- rows of some octets, with texts at a place of each: one of the texts has a fault
-unfoldable pub rowFault : (Bool → Text → Bool) → ℕ → ℕ → ℕ → ℕ → List ℕ → ℕ → Bool
-rowFault fault size base texts nulls t i = any (faultyText fault nulls t (size * i + base)) texts
+unfoldable pub rowFault : (Bool → Text → Bool) → ℕ → ℕ → ℕ → ℕ → ℕ → List ℕ → ℕ → Bool
+rowFault fault size base texts from nulls t i = any (faultyText fault from nulls t (size * i + base)) texts
 
 -- a table's rows are such
-pub row-fault : (fault : Bool → Text → Bool) (k : ℕ) (t : List ℕ) (size base texts nulls n r : ℕ) → size ≡ row k → base ≡ textBase k → texts ≡ textCount k → nulls ≡ nullCount k → n ≡ rows k t
-    → r ≡ first (rowFault fault size base texts nulls t) n → r ≡ first (faultyRow fault k t) (rows k t)
+pub row-fault : (f : Format) (fault : Bool → Text → Bool) (k : ℕ) (t : List ℕ) (size base texts from nulls n r : ℕ) → size ≡ rowIn f k → base ≡ baseIn f k → texts ≡ textsIn f k → from ≡ nullFrom f k → nulls ≡ nullEnd f k → n ≡ rowsAs f k t
+    → r ≡ first (rowFault fault size base texts from nulls t) n → r ≡ first (faultyRow f fault k t) (rowsAs f k t)
 unfolding rowFault faultyRow
-row-fault fault k t size base texts nulls n r e f g h q w =
-    w ∙ ap (first (rowFault fault size base texts nulls t)) q ∙ first-agree (rowFault fault size base texts nulls t) (faultyRow fault k t) (rows k t) (λ i l. cc)
+row-fault f fault k t size base texts from nulls n r e g h o p q w =
+    w ∙ ap (first (rowFault fault size base texts from nulls t)) q ∙ first-agree (rowFault fault size base texts from nulls t) (faultyRow f fault k t) (rowsAs f k t) (λ i l. cc)
 
 -- the rows before an end have room for their texts
 pub record Roomy (t : List ℕ) (size base texts end : ℕ) : Type 0 where
@@ -171,9 +177,9 @@ module _ (o : TextOrder) (names t : List ℕ) (size base texts : ℕ) where
   }
 
 -- a search for rows at fault
-pub passed-on : (names t : List ℕ) (size base texts : ℕ) (fault : TextFault) (nulls : ℕ) (c d : Cursor) → Passed StartFirst names t size base texts c d
-    → Seeking (rowFault (asked fault names) size base texts nulls t) (c .row) (c .end) → Seeking (rowFault (asked fault names) size base texts nulls t) (d .row) (d .end)
+pub passed-on : (names t : List ℕ) (size base texts : ℕ) (fault : TextFault) (from nulls : ℕ) (c d : Cursor) → Passed StartFirst names t size base texts c d
+    → Seeking (rowFault (asked fault names) size base texts from nulls t) (c .row) (c .end) → Seeking (rowFault (asked fault names) size base texts from nulls t) (d .row) (d .end)
 unfolding rowFault
-passed-on names t size base texts fault nulls c d h =
-    h .on (rowFault (asked fault names) size base texts nulls t)
-    (λ i o w. ap (any (faultyText (asked fault names) nulls t (size * i + base))) o ∙ clear-row fault names t nulls (size * i + base) w)
+passed-on names t size base texts fault from nulls c d h =
+    h .on (rowFault (asked fault names) size base texts from nulls t)
+    (λ i o w. ap (any (faultyText (asked fault names) from nulls t (size * i + base))) o ∙ clear-row fault names t from nulls (size * i + base) w)

@@ -14,6 +14,7 @@ use Rattle.octets.specs.OctetLaws.{le32-word, le32-past, word-back}
 use Rattle.octets.specs.Gather.{gather}
 use Rattle.octets.specs.GatherLaws.{gather-around, gather-even, gather-agree}
 use Rattle.listing.specs.Listing.{row, version, total, count, offset, start}
+use Rattle.listing.specs.declared.Format.the-variants.{Edition1}
 use Rattle.listing.specs.Header.{startOf, two, pair, pairs, header}
 
 -- the second of two words is read again
@@ -52,7 +53,7 @@ unfolding startOf
 start-grows z k n l = le-ind (λ (m : ℕ). startOf z k ≤ startOf z m) (le-refl _) (λ m _ q. omega (arith, q)) n l
 
 -- the reader's start is that of the octets that its counts take
-pub start-read : (s : List ℕ) (k : ℕ) → start s k ≡ startOf (λ j. row j * count s j) k
+pub start-read : (s : List ℕ) (k : ℕ) → start Edition1 s k ≡ startOf (λ j. row j * count s j) k
 unfolding start startOf
 start-read s zero = refl
 start-read s (suc k) = rw (start-read s k)

@@ -8,8 +8,9 @@ use Rattle.octets.specs.Octets.{le32, le64, part}
 use Rattle.octets.specs.Search.{first, any}
 use Rattle.octets.specs.Texts.{textAt}
 use Rattle.utf8.specs.Utf8.{inRange, table37, size, wellFormed}
-use Rattle.listing.specs.Listing.{row, rows, layout}
+use Rattle.listing.specs.Listing.{row, rowsAs, layout}
 use Rattle.listing.specs.Refusals.{textBase, textCount, nullCount, faultyText, faultyRow, lowestFaultyRow, faultyTable, badContents, rowReasons, decide, numberOf, tableOf, rowOf}
+use Rattle.listing.specs.declared.Format.the-variants.{Edition1}
 use Rattle.listing.specs.declared.Outcome.the-variants.{Accepted}
 
 -- a text's two numbers, below 256, and an i64 of 0
@@ -37,7 +38,7 @@ abbrev tables : List ℕ → List ℕ → List ℕ → List ℕ → ℕ → List
 tables c t e names k = cond (eqb k 2) c (cond (eqb k 5) t (cond (eqb k 6) e (cond (eqb k 7) names [])))
 
 abbrev answer : (ℕ → List ℕ) → List ℕ
-answer ts = let o = decide (rowReasons ts) (Accepted (layout [])) in numberOf o ∷ tableOf o ∷ rowOf o ∷ []
+answer ts = let o = decide (rowReasons Edition1 ts) (Accepted (layout [])) in numberOf o ∷ tableOf o ∷ rowOf o ∷ []
 
 abbrev lines : List (List ℕ × List ℕ)
 lines =
@@ -61,5 +62,5 @@ lines =
     ∷ []
 
 pub ill-worked : map (λ l. l .0) lines ≡ map (λ l. l .1) lines
-unfolding le32 le64 part first any textAt inRange table37 size wellFormed row rows textBase textCount nullCount faultyText faultyRow lowestFaultyRow faultyTable badContents rowReasons
+unfolding le32 le64 part first any textAt inRange table37 size wellFormed row rowsAs textBase textCount nullCount faultyText faultyRow lowestFaultyRow faultyTable badContents rowReasons
 ill-worked = refl

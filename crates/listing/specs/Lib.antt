@@ -1,3 +1,4 @@
+pub mod Formats
 pub mod Listing
 pub mod TableLaws
 pub mod Header
@@ -5,6 +6,7 @@ pub mod HeaderLaws
 pub mod Refusals
 pub mod ReasonLaws
 pub mod RefusalLaws
+pub mod FormatLaws
 pub mod ListingLaws
 pub mod FaultLaws
 pub mod IllWorked

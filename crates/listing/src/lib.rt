@@ -1,4 +1,4 @@
-// The reader of a listing: refused under one reason, or its seven tables. And what a writer needs of it: the check of rows, the header.
+// The reader of a listing: refused under one reason, or its tables. And what a writer needs of it: the check of rows, the header.
 ghost use mathlib.Core.Path.{_≡_};
 ghost use Prim.Native.Nat.{_+_, _<_};
 ghost use Rattle.listing.specs.Listing.{count, offset};
@@ -17,14 +17,22 @@ pub use header::table_of;
 pub use put::put_header;
 pub use put::start_by;
 pub use refusals::accept;
+pub use refusals::check;
 pub use refusals::check_rows;
 pub use rows::is_faulty;
 pub use rows::rows_of;
 pub use rows::skip_clear;
 pub use tables::TABLE_COUNT;
 pub use tables::cut;
+pub use tables::cut_in;
 pub use tables::slice_of;
 pub use tables::table_at;
+
+// Which listing it is: that of a pack, or its sibling for the metadata. Tables are counted from 1 in each; a refusal names those of the metadata 11 to 13.
+pub enum Format {
+    Edition1,
+    Metadata,
+}
 
 // Each table knows the octets of its row and its most rows. What the header says of it: how many rows, and where.
 pub struct ReferenceTable {
@@ -192,6 +200,41 @@ impl NameTable {
         ensures { λ r. ⌜ (r .count ≡ count (now (s .entry)) 7) × (r .offset ≡ offset (now (s .entry)) 7) ⌝ }
     {
         Self::new(count_of(s, 7), offset_of(s, 7))
+    }
+}
+
+// Of the metadata; the third table, the names, is as above.
+pub struct MetadataTable {
+    pub count: u32,
+    pub offset: u32,
+}
+
+impl MetadataTable {
+    pub const ROW: u8 = 16;
+
+    pub const MOST: u32 = 256;
+
+    pub fn new(count: u32, offset: u32) -> Self
+        ensures { λ r. ⌜ (r .count ≡ count) × (r .offset ≡ offset) ⌝ }
+    {
+        Self { count, offset }
+    }
+}
+
+pub struct MetadataReferenceTable {
+    pub count: u32,
+    pub offset: u32,
+}
+
+impl MetadataReferenceTable {
+    pub const ROW: u8 = 64;
+
+    pub const MOST: u32 = 4096;
+
+    pub fn new(count: u32, offset: u32) -> Self
+        ensures { λ r. ⌜ (r .count ≡ count) × (r .offset ≡ offset) ⌝ }
+    {
+        Self { count, offset }
     }
 }
 

@@ -3,25 +3,33 @@ ghost use mathlib.Core.Path.{_≡_};
 ghost use mathlib.Core.List.{map};
 ghost use Prim.Native.Nat.{_≤_, _<_};
 ghost use Rattle.octets.specs.Slices.{nth};
-ghost use Rattle.listing.specs.Listing.{tablesOf, numbered};
-use crate::header::table_of;
+ghost use Rattle.listing.specs.Listing.{tablesIn, tablesOf, numbered};
+use crate::Format;
+use crate::header::table_in;
 
-// How many tables there are.
+// How many tables there are at most.
 pub const TABLE_COUNT: usize = 7;
 
-// The seven tables of a listing.
+// The tables of a listing; where its format has fewer than seven, the others are empty.
+pub fn cut_in<'a>(f: Format, listing: &'a [u8]) -> [&'a [u8]; TABLE_COUNT]
+    ensures { λ r. ⌜ map now r ≡ tablesIn f (now (listing .entry)) ⌝ }
+{
+    [
+        table_in(f, listing, 1),
+        table_in(f, listing, 2),
+        table_in(f, listing, 3),
+        table_in(f, listing, 4),
+        table_in(f, listing, 5),
+        table_in(f, listing, 6),
+        table_in(f, listing, 7),
+    ]
+}
+
+// The seven of edition 1.
 pub fn cut<'a>(listing: &'a [u8]) -> [&'a [u8]; TABLE_COUNT]
     ensures { λ r. ⌜ map now r ≡ tablesOf (now (listing .entry)) ⌝ }
 {
-    [
-        table_of(listing, 1),
-        table_of(listing, 2),
-        table_of(listing, 3),
-        table_of(listing, 4),
-        table_of(listing, 5),
-        table_of(listing, 6),
-        table_of(listing, 7),
-    ]
+    cut_in(Format::Edition1, listing)
 }
 
 // The table at a place.

@@ -27,6 +27,7 @@ use Rattle.listing.specs.Refusals.{rowReasons, checked}
 use Rattle.listing.specs.ReasonLaws.{thereAt, answerBy, Passed, pasts, decide-past, decide-stop, decide-both, decide-fault, decide-clean}
 use Rattle.listing.specs.declared.Checked.{Checked}
 use Rattle.listing.specs.declared.Checked.the-variants.{Clean, Fault}
+use Rattle.listing.specs.declared.Format.the-variants.{Edition1}
 use Rattle.writer.specs.Parts.{sizeOf, countOf, measured, numbers, joined, written}
 use Rattle.writer.specs.PartLaws.{Sized, size-small, count-small, written-length}
 use Rattle.writer.specs.Writing.{ragged, crowded, flawed, sizeReasons, shortReason, writeReasons, roomAnswer, sizedAnswer, writeAnswer, givenOf, WriteOf}
@@ -174,15 +175,15 @@ module _ (ps : ℕ → List ℕ) (room : ℕ) (r : Written) where
   pub sizes-past : Passed (writeReasons ps room) 2 → r ≡ sizedAnswer ps room → r ≡ writeAnswer ps room
   unfolding writeAnswer sizedAnswer roomAnswer writeReasons sizeReasons
   sizes-past h q =
-      q ∙ sym (decide-past Refused (writeReasons ps room) (Octets (length (written ps))) 2 h ∙ decide-both Refused (rowReasons ps) (shortReason ps room ∷ []) (Octets (length (written ps))))
+      q ∙ sym (decide-past Refused (writeReasons ps room) (Octets (length (written ps))) 2 h ∙ decide-both Refused (rowReasons Edition1 ps) (shortReason ps room ∷ []) (Octets (length (written ps))))
 
-  pub rows-fault : (c : Checked) (n t i : ℕ) → c ≡ checked (rowReasons ps) → c ≡ Fault n t i → r ≡ Refused n t i → r ≡ sizedAnswer ps room
+  pub rows-fault : (c : Checked) (n t i : ℕ) → c ≡ checked (rowReasons Edition1 ps) → c ≡ Fault n t i → r ≡ Refused n t i → r ≡ sizedAnswer ps room
   unfolding sizedAnswer
-  rows-fault c n t i e f q = q ∙ sym (decide-fault Refused (rowReasons ps) (roomAnswer ps room) n t i (sym e ∙ f))
+  rows-fault c n t i e f q = q ∙ sym (decide-fault Refused (rowReasons Edition1 ps) (roomAnswer ps room) n t i (sym e ∙ f))
 
-  pub rows-clean : (c : Checked) → c ≡ checked (rowReasons ps) → c ≡ Clean → r ≡ roomAnswer ps room → r ≡ sizedAnswer ps room
+  pub rows-clean : (c : Checked) → c ≡ checked (rowReasons Edition1 ps) → c ≡ Clean → r ≡ roomAnswer ps room → r ≡ sizedAnswer ps room
   unfolding sizedAnswer
-  rows-clean c e f q = q ∙ sym (decide-clean Refused (rowReasons ps) (roomAnswer ps room) (sym e ∙ f))
+  rows-clean c e f q = q ∙ sym (decide-clean Refused (rowReasons Edition1 ps) (roomAnswer ps room) (sym e ∙ f))
 
   module _ (n : ℕ) (e : n ≡ length (written ps)) where
     pub room-short : room < n → r ≡ Refused 12 0 0 → r ≡ roomAnswer ps room

@@ -21,6 +21,7 @@ use Rattle.listing.specs.ListingLaws.{table-length, table-rows, count-most, hea
 use Rattle.listing.specs.Header.{startOf, header}
 use Rattle.listing.specs.HeaderLaws.{start-gather, start-agree, start-read, start-grows, header-length, count-read, offset-read, header-agree}
 use Rattle.listing.specs.Refusals.{outcome, isAccepted}
+use Rattle.listing.specs.declared.Format.the-variants.{Edition1}
 use Rattle.writer.specs.Parts.{sizeOf, countOf, joined, written}
 
 -- each part is whole rows, at most its most, and there is none at 0
@@ -107,7 +108,7 @@ module _ (ps : ℕ → List ℕ) (v : Seven ps) (w : Sized ps) where
   taken zero l = zero-mul (count (written ps) 0) ∙ sym (ap length (v .none))
   taken (suc k) l = ap (λ (n : ℕ). row (suc k) * n) (count-written (suc k) (omega arith) (omega arith)) ∙ sym (w .whole (suc k) (omega arith) (omega arith))
 
-  pub start-written : (k : ℕ) → k ≤ 8 → start (written ps) k ≡ startOf (sizeOf ps) k
+  pub start-written : (k : ℕ) → k ≤ 8 → start Edition1 (written ps) k ≡ startOf (sizeOf ps) k
   start-written k h = start-read (written ps) k ∙ start-agree (λ j. row j * count (written ps) j) (sizeOf ps) k (λ j l. taken j (omega arith))
 
   inside : (k : ℕ) → 1 ≤ k → k ≤ 7 → table (written ps) k ≡ ps k

@@ -22,6 +22,7 @@ use Rattle.listing.specs.ReasonLaws.{numberAt, numbersOf, placeIn, distinct, ap
 use Rattle.listing.specs.RefusalLaws.{accepted-exactly}
 use Rattle.listing.specs.declared.Outcome.{Outcome}
 use Rattle.listing.specs.declared.Outcome.the-variants as reader
+use Rattle.listing.specs.declared.Format.the-variants.{Edition1}
 use Rattle.writer.specs.Parts.{sizeOf, countOf, joined, written}
 use Rattle.writer.specs.PartLaws.{Sized, written-length, written-most, start-small, count-small, offset-written, start-written, tables-written, tables-sized, written-back}
 use Rattle.writer.specs.Writing.{ragged, crowded, sizeReasons, shortReason, writeReasons, roomAnswer, writeAnswer, numberIn, octetsIn, givenOf, WriteOf}
@@ -75,23 +76,23 @@ refusalOr (reader.Accepted l) o = o
 refusalOr (reader.Refused n t r) o = Refused n t r
 
 -- "5 .. as the reader would give" it: where a count is a word, the reader's own test of the listing put together
-pub count-as-reader : (ps : ℕ → List ℕ) (k : ℕ) → 1 ≤ k → k ≤ 7 → countOf ps k < 2 ^ 32 → over (written ps) k ≡ crowded ps k
+pub count-as-reader : (ps : ℕ → List ℕ) (k : ℕ) → 1 ≤ k → k ≤ 7 → countOf ps k < 2 ^ 32 → over Edition1 (written ps) k ≡ crowded ps k
 unfolding over crowded written joined
 count-as-reader ps k l h c = ap (λ (n : ℕ). ltb 0 k && ltb (most k) n) (count-read 1 (countOf ps) (sizeOf ps) k (gather 8 ps) l h c)
 
 module _ (ps : ℕ → List ℕ) (v : Seven ps) (w : Sized ps) where
-  none-over : (k : ℕ) → k < 8 → over (written ps) k ≡ false
+  none-over : (k : ℕ) → k < 8 → over Edition1 (written ps) k ≡ false
   unfolding over
   none-over zero l = refl
   none-over (suc k) l = count-as-reader ps (suc k) (omega arith) (omega arith) (count-small ps w (suc k) (omega arith) (omega arith)) ∙ none-crowded-at ps w (suc k) l
 
-  none-moved : (k : ℕ) → k < 8 → moved (written ps) k ≡ false
+  none-moved : (k : ℕ) → k < 8 → moved Edition1 (written ps) k ≡ false
   unfolding moved
   none-moved zero l = refl
   none-moved (suc k) l =
-      let e : offset (written ps) (suc k) ≡ start (written ps) (suc k) = offset-written ps v w (suc k) (omega arith) (omega arith) ∙ sym (start-written ps v w (suc k) (omega arith)) in
-      let f : start (written ps) 8 ≡ length (written ps) = start-written ps v w 8 (omega arith) ∙ sym (written-length ps) in
-      simp (lt-ltb 0 (suc k) (omega arith), eq-eqb (offset (written ps) (suc k)) (start (written ps) (suc k)) e, eq-eqb (start (written ps) 8) (length (written ps)) f) (idle (eqb (suc k) 7))
+      let e : offset (written ps) (suc k) ≡ start Edition1 (written ps) (suc k) = offset-written ps v w (suc k) (omega arith) (omega arith) ∙ sym (start-written ps v w (suc k) (omega arith)) in
+      let f : start Edition1 (written ps) 8 ≡ length (written ps) = start-written ps v w 8 (omega arith) ∙ sym (written-length ps) in
+      simp (lt-ltb 0 (suc k) (omega arith), eq-eqb (offset (written ps) (suc k)) (start Edition1 (written ps) (suc k)) e, eq-eqb (start Edition1 (written ps) 8) (length (written ps)) f) (idle (eqb (suc k) 7))
     where
       idle : (b : Bool) → (b && false) ≡ false
       idle true = refl
@@ -113,32 +114,32 @@ module _ (ps : ℕ → List ℕ) (v : Seven ps) (w : Sized ps) where
   total-written = total-read 1 (countOf ps) (sizeOf ps) (gather 8 ps) (start-small ps w 8 (omega arith)) ∙ sym (written-length ps)
 
   -- "2 can't occur", nor can 1, 3, 4 and 6: the header is right by making, and 64 with the most of each table is 9,762,880
-  pub header-free : Free (headerReasons (written ps))
+  pub header-free : Free (headerReasons Edition1 (written ps))
   unfolding headerReasons
   header-free zero = le-ltb (length (written ps)) 64 room64
   header-free (suc zero) = le-ltb 9762880 (length (written ps)) (written-most ps v w)
   header-free (suc (suc zero)) = ap not (eq-eqb (version (written ps)) 1 version-written)
   header-free (suc (suc (suc zero))) = ap not (eq-eqb (total (written ps)) (length (written ps)) total-written)
-  header-free (suc (suc (suc (suc zero)))) = any-none (over (written ps)) 8 none-over
-  header-free (suc (suc (suc (suc (suc zero))))) = any-none (moved (written ps)) 8 none-moved
+  header-free (suc (suc (suc (suc zero)))) = any-none (over Edition1 (written ps)) 8 none-over
+  header-free (suc (suc (suc (suc (suc zero))))) = any-none (moved Edition1 (written ps)) 8 none-moved
   header-free (suc (suc (suc (suc (suc (suc i)))))) = refl
 
   -- so its rows alone decide
-  pub rows-decide : outcome (written ps) ≡ decide (rowReasons ps) (reader.Accepted (layout (written ps)))
+  pub rows-decide : outcome (written ps) ≡ decide (rowReasons Edition1 ps) (reader.Accepted (layout (written ps)))
   unfolding outcome
   rows-decide =
-      decide-both reader.Refused (headerReasons (written ps)) (rowReasons (table (written ps))) (reader.Accepted (layout (written ps)))
-      ∙ decide-none reader.Refused (headerReasons (written ps)) (decide (rowReasons (table (written ps))) (reader.Accepted (layout (written ps)))) header-free
-      ∙ ap (λ (ts : ℕ → List ℕ). decide (rowReasons ts) (reader.Accepted (layout (written ps)))) (tables-written ps v w)
+      decide-both reader.Refused (headerReasons Edition1 (written ps)) (rowReasons Edition1 (table (written ps))) (reader.Accepted (layout (written ps)))
+      ∙ decide-none reader.Refused (headerReasons Edition1 (written ps)) (decide (rowReasons Edition1 (table (written ps))) (reader.Accepted (layout (written ps)))) header-free
+      ∙ ap (λ (ts : ℕ → List ℕ). decide (rowReasons Edition1 ts) (reader.Accepted (layout (written ps)))) (tables-written ps v w)
 
   -- "7 and 8 as the reader would give them", and 13 after them: its refusal of the listing put together from the parts, or else what the room says
   pub as-reader : (room : ℕ) → writeAnswer ps room ≡ refusalOr (outcome (written ps)) (roomAnswer ps room)
   unfolding writeAnswer writeReasons roomAnswer
   as-reader room =
-      decide-both Refused (sizeReasons ps) (rowReasons ps ++ (shortReason ps room ∷ [])) (Octets (length (written ps)))
-      ∙ decide-none Refused (sizeReasons ps) (decideBy Refused (rowReasons ps ++ (shortReason ps room ∷ [])) (Octets (length (written ps)))) (sizes-none ps w)
-      ∙ decide-both Refused (rowReasons ps) (shortReason ps room ∷ []) (Octets (length (written ps)))
-      ∙ sym (decide-turned reader.Refused Refused (λ (o : Outcome). refusalOr o (roomAnswer ps room)) (λ n t r. refl) (rowReasons ps) (reader.Accepted (layout (written ps))))
+      decide-both Refused (sizeReasons ps) (rowReasons Edition1 ps ++ (shortReason ps room ∷ [])) (Octets (length (written ps)))
+      ∙ decide-none Refused (sizeReasons ps) (decideBy Refused (rowReasons Edition1 ps ++ (shortReason ps room ∷ [])) (Octets (length (written ps)))) (sizes-none ps w)
+      ∙ decide-both Refused (rowReasons Edition1 ps) (shortReason ps room ∷ []) (Octets (length (written ps)))
+      ∙ sym (decide-turned reader.Refused Refused (λ (o : Outcome). refusalOr o (roomAnswer ps room)) (λ n t r. refl) (rowReasons Edition1 ps) (reader.Accepted (layout (written ps))))
       ∙ ap (λ (o : Outcome). refusalOr o (roomAnswer ps room)) (sym rows-decide)
 
 -- ---- a listing that is written
@@ -152,9 +153,9 @@ module _ (ps : ℕ → List ℕ) (room n : ℕ) (e : writeAnswer ps room ≡ Oct
   unfolding writeAnswer
   none = good-exactly Refused isWritten (λ n t r. refl) (writeReasons ps room) (Octets (length (written ps))) refl .0 (ap isWritten e)
 
-  rest : Free (rowReasons ps ++ (shortReason ps room ∷ []))
+  rest : Free (rowReasons Edition1 ps ++ (shortReason ps room ∷ []))
   unfolding writeReasons
-  rest = free-right (sizeReasons ps) (rowReasons ps ++ (shortReason ps room ∷ [])) none
+  rest = free-right (sizeReasons ps) (rowReasons Edition1 ps ++ (shortReason ps room ∷ [])) none
 
   -- so many octets: the listing's
   pub octets-written : n ≡ length (written ps)
@@ -162,7 +163,7 @@ module _ (ps : ℕ → List ℕ) (room n : ℕ) (e : writeAnswer ps room ≡ Oct
   octets-written = ap octetsIn (sym e ∙ decide-none Refused (writeReasons ps room) (Octets (length (written ps))) none)
 
   pub octets-fit : length (written ps) ≤ room
-  octets-fit = ltb-false room (length (written ps)) (free-right (rowReasons ps) (shortReason ps room ∷ []) rest 0)
+  octets-fit = ltb-false room (length (written ps)) (free-right (rowReasons Edition1 ps) (shortReason ps room ∷ []) rest 0)
 
   pub octets-sized : ps 0 ≡ [] → Sized ps
   unfolding writeReasons sizeReasons
@@ -173,7 +174,7 @@ module _ (ps : ℕ → List ℕ) (room n : ℕ) (e : writeAnswer ps room ≡ Oct
     pub reader-accepts : outcome (written ps) ≡ reader.Accepted (layout (written ps))
     reader-accepts =
         rows-decide ps v (octets-sized (v .none))
-        ∙ decide-none reader.Refused (rowReasons ps) (reader.Accepted (layout (written ps))) (free-left (rowReasons ps) (shortReason ps room ∷ []) rest)
+        ∙ decide-none reader.Refused (rowReasons Edition1 ps) (reader.Accepted (layout (written ps))) (free-left (rowReasons Edition1 ps) (shortReason ps room ∷ []) rest)
 
     pub reader-tables : table (written ps) ≡ ps
     reader-tables = tables-written ps v (octets-sized (v .none))
@@ -194,8 +195,8 @@ module _ (s : List ℕ) (a : isAccepted (outcome s) ≡ true) (p : (k : ℕ) →
   free : (room : ℕ) → length s ≤ room → Free (writeReasons (table s) room)
   unfolding writeReasons
   free room l =
-      free-both (sizeReasons (table s)) (rowReasons (table s) ++ (shortReason (table s) room ∷ [])) (sizes-none (table s) (tables-sized s a))
-      (free-both (rowReasons (table s)) (shortReason (table s) room ∷ []) (free-right (headerReasons s) (rowReasons (table s)) (accepted-exactly s .0 a)) (short room l))
+      free-both (sizeReasons (table s)) (rowReasons Edition1 (table s) ++ (shortReason (table s) room ∷ [])) (sizes-none (table s) (tables-sized s a))
+      (free-both (rowReasons Edition1 (table s)) (shortReason (table s) room ∷ []) (free-right (headerReasons Edition1 s) (rowReasons Edition1 (table s)) (accepted-exactly s .0 a)) (short room l))
 
   pub writes-all : (room : ℕ) → length s ≤ room → writeAnswer (table s) room ≡ Octets (length s)
   unfolding writeAnswer

@@ -9,6 +9,7 @@ use Rattle.octets.specs.Octets.{filled}
 use Rattle.octets.specs.Search.{first, any}
 use Rattle.listing.specs.Listing.{row, most}
 use Rattle.listing.specs.Refusals.{Reason, rowReasons, decideBy}
+use Rattle.listing.specs.declared.Format.the-variants.{Edition1}
 use Rattle.writer.specs.Parts.{sizeOf, countOf, written}
 use Rattle.writer.specs.declared.Flaw.{Flaw}
 use Rattle.writer.specs.declared.Flaw.the-variants.{Ragged, Crowded}
@@ -42,7 +43,7 @@ shortReason ps room = record { number = 12; there = ltb room (length (written ps
 
 -- between them "7 and 8 as the reader would give them", and 13 "after 8 and before 12"
 unfoldable pub writeReasons : (ℕ → List ℕ) → ℕ → List Reason
-writeReasons ps room = sizeReasons ps ++ (rowReasons ps ++ (shortReason ps room ∷ []))
+writeReasons ps room = sizeReasons ps ++ (rowReasons Edition1 ps ++ (shortReason ps room ∷ []))
 
 -- ---- the answer: the first reason that is there, or the octets of the listing
 unfoldable pub writeAnswer : (ℕ → List ℕ) → ℕ → Written
@@ -53,7 +54,7 @@ unfoldable pub roomAnswer : (ℕ → List ℕ) → ℕ → Written
 roomAnswer ps room = decideBy Refused (shortReason ps room ∷ []) (Octets (length (written ps)))
 
 unfoldable pub sizedAnswer : (ℕ → List ℕ) → ℕ → Written
-sizedAnswer ps room = decideBy Refused (rowReasons ps) (roomAnswer ps room)
+sizedAnswer ps room = decideBy Refused (rowReasons Edition1 ps) (roomAnswer ps room)
 
 -- the number of an answer, 0 where it is no refusal; its place, and the octets written
 abbrev pub numberIn : Written → ℕ

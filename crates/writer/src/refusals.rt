@@ -10,6 +10,7 @@ use crate::Flaw;
 use crate::Written;
 use crate::parts::length_of;
 use listing::Checked;
+use listing::Format;
 use listing::TABLE_COUNT;
 use listing::table_at;
 
@@ -62,7 +63,7 @@ fn sized_answer(parts: [&[u8]; TABLE_COUNT], room: usize) -> Written
     requires { ⌜ Sized (numbered (map now parts)) ⌝ }
     ensures { λ r. ⌜ r ≡ sizedAnswer (numbered (map now (parts .entry))) room ⌝ }
 {
-    let said = listing::check_rows(parts);
+    let said = listing::check_rows(Format::Edition1, parts);
     match said {
         Checked::Fault { number, table, row } => refused(number, table, row),
         Checked::Clean => room_answer(parts, room),

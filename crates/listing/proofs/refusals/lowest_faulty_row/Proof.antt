@@ -1,6 +1,6 @@
--- `listing::refusals::lowest_faulty_row` meets its contract.
+-- `listing::refusals/lowest_faulty_row` meets its contract.
 use Rattle.listing.specs.Refusals.{lowestFaultyRow}
-use Rattle.listing.proofs.Laws.{marks-cut}
+use Rattle.listing.proofs.Laws.{below-eight, below-last, marks-cut}
 use borrow.Author.Needs.{needs}
 use Rattle.listing.proofs.refusals.lowest_faulty_row.Statement.{statement}
 use Rattle.listing.proofs.refusals.lowest_faulty_row.Tie as tie
@@ -9,5 +9,7 @@ pub lowest-faulty-row-spec : {M : Type 1} → statement M
 unfolding lowestFaultyRow
 lowest-faulty-row-spec =
     tie.close
-    (tie.spec
-    (λ c κs. search needs) (λ c κs. search needs) (λ c κs. search (marks-cut, needs)) (λ c. cc))
+    (tie.spec (λ c κs. search (below-eight, below-last, marks-cut, needs))
+    (λ c κs. search needs)
+    (λ c κs. search (below-eight, below-last, marks-cut, needs))
+    (λ c. cc))
