@@ -1,4 +1,5 @@
 pub mod Findings
+pub mod Schemes
 pub mod Answers
 pub mod ColumnAnswers
 pub mod Words

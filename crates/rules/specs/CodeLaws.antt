@@ -1,24 +1,40 @@
--- The table of a code: at each place of the constant table, and of a code that is none of some.
+-- Lists of codes with their tables, and what is worked out once for each; the table of a code, at each place, and of a code that is none of some.
 use Prim.Native.Nat.{ℕ, zero, suc, _<_}
 use mathlib.Core.Path.{_≡_, refl, sym, ap, _∙_}
 use mathlib.Core.Bool.{Bool, true, false, cond, _||_, false≢true}
 use mathlib.Core.List.{List, [], _∷_}
+use mathlib.Core.Logic.{_↔_}
 use native.Mathlib.Omega.{arith}
-use borrow.Author.Tests.{eq-eqb, eqb-true}
-use lib.Dec.{T, eqb, eqb→eq}
+use borrow.Author.Tests.{eq-eqb, eqb-true, lt-ltb}
+use lib.Dec.{T, eqb, eqb→eq, ltb, ltb→lt}
 use lib.ListN.{length, getD, drop}
 use Rattle.octets.specs.TableLaws.{every, at}
 use Rattle.rules.specs.Codes.{codes, tables, codeCount, codeAt, tableAt, seek, tableOf}
 
--- ---- the code at a place has the table at that place, by one computed test
-agrees : ℕ → ℕ → Bool
-agrees k c = eqb (tableOf c) (tableAt k)
+-- ---- what codes ks and their tables ts have to be: each a test of their places, computed once
+-- every earlier code is below
+abbrev pub ascends : List ℕ → ℕ → ℕ → Bool
+ascends ks k c = every (λ i d. cond (ltb i k) (ltb d c) true) 0 ks
 
-pub place-table : (k : ℕ) → k < codeCount → tableOf (codeAt k) ≡ tableAt k
-unfolding agrees tableOf tableAt codeAt
-place-table k l = eqb→eq _ _ (at agrees codes tt k l)
+-- the table found for the code is the one at its place
+abbrev pub agrees : List ℕ → List ℕ → ℕ → ℕ → Bool
+agrees ks ts k c = eqb (seek ks ts c) (getD ts k 0)
 
--- ---- a code that belongs to a table has a place among the 36
+-- and that is some table
+abbrev pub tabled : List ℕ → ℕ → ℕ → Bool
+tabled ts k c = ltb 0 (getD ts k 0)
+
+-- a u32 holds the code
+abbrev pub small : ℕ → ℕ → Bool
+small k c = ltb c 4294967296
+
+pub record Sound (ks ts : List ℕ) : Type 0 where
+  pub ascend : T (every (ascends ks) 0 ks)
+  pub agree : T (every (agrees ks ts) 0 ks)
+  pub somewhere : T (every (tabled ts) 0 ks)
+  pub fit : T (every small 0 ks)
+
+-- ---- a code that belongs to a table has a place among the codes
 pub record Place (ks ts : List ℕ) (c t : ℕ) : Type 0 where
   pub place : ℕ
   pub within : place < length ks
@@ -42,9 +58,40 @@ placed : (ks ts : List ℕ) (c t : ℕ) → (t ≡ 0 → ⊥) → seek ks ts c �
 placed [] ts c t n q = absurd (n (sym q))
 placed (k ∷ ks) ts c t n q = mutual-step ks ts k c t (eqb c k) refl n q (λ n′ q′. placed ks (drop 1 ts) c t n′ q′)
 
+pub code-place : (ks ts : List ℕ) (c : ℕ) → (seek ks ts c ≡ 0 → ⊥) → Place ks ts c (seek ks ts c)
+code-place ks ts c n = placed ks ts c (seek ks ts c) n refl
+
+-- ---- what that shows, place by place
+module _ (ks ts : List ℕ) (sound : Sound ks ts) where
+  pub codes-ascend : (i k : ℕ) → i < k → k < length ks → getD ks i 0 < getD ks k 0
+  codes-ascend i k l m =
+      let c : ℕ = getD ks k 0 in
+      ltb→lt _ _ (rw (lt-ltb i k l) at (at (λ i d. cond (ltb i k) (ltb d c) true) ks (at (ascends ks) ks (sound .ascend) k m) i (omega arith)))
+
+  pub codes-agree : (k : ℕ) → k < length ks → seek ks ts (getD ks k 0) ≡ getD ts k 0
+  codes-agree k l = eqb→eq _ _ (at (agrees ks ts) ks (sound .agree) k l)
+
+  pub codes-fit : (k : ℕ) → k < length ks → getD ks k 0 < 4294967296
+  codes-fit k l = ltb→lt _ _ (at small ks (sound .fit) k l)
+
+  -- a code has a table exactly where it has a place
+  pub codes-listed : (c : ℕ) → (seek ks ts c ≡ 0 → ⊥) ↔ ((k : ℕ) × (k < length ks) × (getD ks k 0 ≡ c))
+  codes-listed c = (
+    λ n. let h = code-place ks ts c n in (h .place, h .within, h .code),
+    λ h z. omega (arith, codes-agree (h .0) (h .1), ap (seek ks ts) (h .2), ltb→lt 0 (getD ts (h .0) 0) (at (tabled ts) ks (sound .somewhere) (h .0) (h .1))),
+  )
+
+-- ---- the 36
+pub codes-sound : Sound codes tables
+codes-sound = record { ascend = tt; agree = tt; somewhere = tt; fit = tt }
+
+pub place-table : (k : ℕ) → k < codeCount → tableOf (codeAt k) ≡ tableAt k
+unfolding tableOf tableAt codeAt
+place-table = codes-agree codes tables codes-sound
+
 pub listed-place : (c : ℕ) → (tableOf c ≡ 0 → ⊥) → Place codes tables c (tableOf c)
 unfolding tableOf
-listed-place c n = placed codes tables c (seek codes tables c) n refl
+listed-place = code-place codes tables
 
 -- ---- a code that is none of those of a table belongs to another
 -- it is none of them, the last one first: the last arm of a match on them
