@@ -8,9 +8,10 @@ use Rattle.listing.specs.Refusals.{outcome, isAccepted}
 use Rattle.pack.specs.Rows.{Pack, rowsIn}
 use Rattle.pack.specs.Tables.{packOf}
 use Rattle.rules.specs.Judgments.{none}
-use Rattle.rules.specs.Codes.{tableOf, judged, judgedNone}
+use Rattle.rules.specs.Codes.{tableOf}
 use Rattle.rules.specs.declared.Judgment.the-variants.{Hit}
 use Rattle.findings.specs.Findings.{Finding}
+use Rattle.findings.specs.Schemes.{Scheme, tableBy, tileScheme}
 use Rattle.findings.specs.Answers.{alwaysTestable}
 
 -- ---- a finding stands in a list; each finding of a list stands in it once
@@ -22,14 +23,21 @@ abbrev pub Once : List Finding → Type 0
 Once [] = Unit
 Once (f ∷ fs) = (Stands f fs → ⊥) × Once fs
 
--- ---- a code is one of the 36
+-- ---- a code is one of a scheme's; one of the 36
+abbrev pub ListedBy : Scheme → ℕ → Type 0
+ListedBy r c = tableBy r c ≡ 0 → ⊥
+
 abbrev pub Listed : ℕ → Type 0
 Listed c = tableOf c ≡ 0 → ⊥
 
 -- a finding that the rule of its code asks for: of a row of the code's table, or of none
-pub record Due (p : Pack) (f : Finding) : Type 0 where
-  pub listed : Listed (f .code)
-  pub says : ((f .row < rowsIn p (tableOf (f .code))) × (judged p (f .code) (f .row) ≡ Hit (f .partner))) ⊎ ((f .row ≡ none) × (judgedNone p (f .code) ≡ Hit (f .partner)))
+pub record DueBy (r : Scheme) (f : Finding) : Type 0 where
+  pub listed : ListedBy r (f .code)
+  pub says : ((f .row < r .rows (tableBy r (f .code))) × (r .says (f .code) (f .row) ≡ Hit (f .partner))) ⊎ ((f .row ≡ none) × (r .saysNone (f .code) ≡ Hit (f .partner)))
+
+-- one that the 36 ask for of a pack
+abbrev pub Due : Pack → Finding → Type 0
+Due p f = DueBy (tileScheme p) f
 
 -- a finding of an octet string: the string is accepted, and the rule asks for it
 abbrev pub Asked : List ℕ → Finding → Type 0

@@ -12,31 +12,26 @@ use Rattle.listing.specs.declared.Outcome.{Outcome}
 use Rattle.listing.specs.declared.Outcome.the-variants.{Accepted, Refused}
 use Rattle.pack.specs.Rows.{Pack, rowsIn}
 use Rattle.pack.specs.Tables.{packOf}
-use Rattle.rules.specs.Codes.{codeCount, codeAt, tableAt, judged}
+use Rattle.rules.specs.Codes.{codes, tables, codeCount, codeAt, tableAt, judged, judgedNone}
 use Rattle.rules.specs.FarLaws.{of451Before, of452Before, Fewer, fewer451, fewer452}
 use Rattle.rules.specs.declared.Judgment.{Judgment}
 use Rattle.rules.specs.declared.Judgment.the-variants.{Clean, Hit}
 use Rattle.findings.specs.Findings.{Finding, found, atRow, atNone, ofCode, ofPlace, findings, only}
+use Rattle.findings.specs.Schemes.{Scheme, codeIn, tableIn, atRowBy, atNoneBy, ofCodeBy, ofPlaceBy, findingsOf}
 use Rattle.findings.specs.Answers.{findingsBy, reported}
 
 -- ---- the list before the request: the same, by the rules as they were
-
--- the findings that a judge of codes and rows gives, in the order of the report
-abbrev pub findingsOf : (ℕ → ℕ → Judgment) → Pack → List Finding
-findingsOf judge p = gather codeCount (λ k. gather (rowsIn p (tableAt k)) (λ i. found (codeAt k) i (judge (codeAt k) i)) ++ atNone p (codeAt k))
-
-pub by-judged : (p : Pack) → findingsOf (judged p) p ≡ findings p
-unfolding findings ofPlace ofCode atRow
-by-judged p = refl
-
 unfoldable pub judgedBefore : Pack → ℕ → ℕ → Judgment
 judgedBefore p c i =
     cond (eqb c 451) (of451Before (p .sets) (p .matrices .row i))
     (cond (eqb c 452) (of452Before (p .sets) (p .matrices .row i))
     (judged p c i))
 
+abbrev pub schemeBefore : Pack → Scheme
+schemeBefore p = record { codes = codes; tables = tables; rows = rowsIn p; says = judgedBefore p; saysNone = judgedNone p }
+
 unfoldable pub findingsBefore : Pack → List Finding
-findingsBefore p = findingsOf (judgedBefore p) p
+findingsBefore p = findingsOf (schemeBefore p)
 
 -- what a report of an octet string held
 unfoldable pub reportedBefore : List ℕ → List Finding
@@ -97,7 +92,7 @@ module _ (p : Pack) (i : ℕ) where
 
 -- "no new finding may appear"
 pub no-new-finding : (p : Pack) → Less (findings p) (findingsBefore p)
-unfolding findingsBefore findings ofPlace ofCode atRow
+unfolding findingsBefore findingsOf ofPlaceBy ofCodeBy atRowBy atNoneBy codeIn tableIn findings ofPlace ofCode atRow atNone codeAt tableAt
 no-new-finding p = less-gather _ _ codeCount (λ k. less-append (less-gather _ _ (rowsIn p (tableAt k)) (λ i. row-less p i (codeAt k))) (all-kept (atNone p (codeAt k))))
 
 -- the same of the report of every octet string

@@ -6,11 +6,13 @@ pub mod Words
 pub mod Demands
 pub mod BothSides
 pub mod Readings
+pub mod ListLaws
+pub mod StandsLaws
+pub mod SchemeLaws
 pub mod FindingLaws
 pub mod OrderLaws
 pub mod VerdictLaws
 pub mod LookupLaws
-pub mod StandsLaws
 pub mod ReportedLaws
 pub mod PartnerLaws
 pub mod RefusedLaws

@@ -26,7 +26,7 @@ use Rattle.rules.specs.Codes.{codeCount, codeAt, tableAt, judged, judgedNone}
 use Rattle.rules.specs.declared.Judgment.{Judgment}
 use Rattle.rules.specs.declared.Judgment.the-variants.{Clean, Hit}
 use Rattle.findings.specs.Findings.{Finding, found, atRow, atNone, ofCode, ofPlace, findings, Every}
-use Rattle.findings.specs.FindingLaws.{every-left, every-part}
+use Rattle.findings.specs.ListLaws.{every-left, every-part}
 use Rattle.findings.specs.Answers.{locatedRow, tileAt}
 use Rattle.findings.specs.declared.Located.{Located}
 use Rattle.findings.specs.declared.Located.the-variants.{At, Nowhere, Refused}

@@ -22,6 +22,7 @@ use Rattle.rules.specs.Codes.{tableOf, judged, judgedNone}
 use Rattle.rules.specs.declared.Judgment.{Judgment}
 use Rattle.rules.specs.declared.Judgment.the-variants.{Clean, Hit}
 use Rattle.findings.specs.Findings.{Finding}
+use Rattle.findings.specs.Schemes.{tableBy}
 use Rattle.findings.specs.Demands.{Due, Partner}
 
 module _ (p : Pack) where
@@ -78,7 +79,7 @@ module _ (p : Pack) where
 
   -- of every finding that a rule asks for
   pub due-partner : (f : Finding) → Due p f → Partner p (f .partner)
-  unfolding Partnered
+  unfolding Partnered tableOf tableBy
   due-partner f d =
       ⊎-elim
       (λ (q : (f .row < rowsIn p (tableOf (f .code))) × (judged p (f .code) (f .row) ≡ Hit (f .partner))).

@@ -21,6 +21,7 @@ use Rattle.rules.specs.Codes.{tableOf, judgedNone}
 use Rattle.rules.specs.declared.Judgment.{Judgment}
 use Rattle.rules.specs.declared.Judgment.the-variants.{Clean}
 use Rattle.findings.specs.Findings.{Finding, atNone, ofCode, findings, only, Ordered}
+use Rattle.findings.specs.Schemes.{tableBy}
 use Rattle.findings.specs.Answers.{reported, failOr, alwaysTestable, withoutFinding, ruled, verdictOf}
 use Rattle.findings.specs.Words.{rulingWords}
 use Rattle.findings.specs.Demands.{Stands, Listed, Asked, LowestRow, NoFinding, Testable}
@@ -184,6 +185,7 @@ module _ (s : List ℕ) (c : ℕ) where
 
   -- "fail with first row": exactly where the report has a finding of the code, with the lowest row of them
   pub verdict-fail : (i : ℕ) → (verdictOf s c ≡ Fail i) ↔ LowestRow (λ f. Stands f (reported s)) c i
+  unfolding tableOf tableBy
   verdict-fail i = (fails, failed)
     where
       fails : verdictOf s c ≡ Fail i → LowestRow (λ f. Stands f (reported s)) c i

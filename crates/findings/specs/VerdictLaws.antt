@@ -1,27 +1,23 @@
 -- Verdicts agree with the list of findings.
-use Prim.Native.Nat.{ℕ, zero, suc, _<_, _≤_}
-use mathlib.Core.Path.{_≡_, refl, sym, ap, _∙_, subst}
+use Prim.Native.Nat.{ℕ}
+use mathlib.Core.Path.{_≡_, refl, sym, ap, _∙_}
 use mathlib.Core.Bool.{Bool, true, false, cond, false≢true}
 use mathlib.Core.List.{List, [], _∷_}
-use native.Mathlib.Omega.{arith}
 use lib.Dec.{eqb}
-use lib.ListN.{getD, length, drop}
-use borrow.Author.Tests.{eqb-true}
 use Rattle.pack.specs.Rows.{Pack, rowsIn}
-use Rattle.rules.specs.Codes.{codes, tables, codeAt, tableAt, tableOf}
-use Rattle.rules.specs.CodeLaws.{Place, listed-place}
-use Rattle.findings.specs.Findings.{Finding, ofCode, ofPlace, findings, only}
-use Rattle.findings.specs.FindingLaws.{only-place}
+use Rattle.rules.specs.Codes.{codeAt, tableAt, tableOf}
+use Rattle.rules.specs.CodeLaws.{codes-sound}
+use Rattle.findings.specs.Findings.{Finding, atRow, atNone, ofCode, ofPlace, findings, only}
+use Rattle.findings.specs.Schemes.{codeIn, tableIn, tableBy, atRowBy, atNoneBy, ofCodeBy, ofPlaceBy, findingsOf, tileScheme}
+use Rattle.findings.specs.SchemeLaws.{scheme-only-code}
 use Rattle.findings.specs.Answers.{failOr, alwaysTestable, withoutFinding, ruled}
 use Rattle.findings.specs.declared.Ruling.{Ruling}
 use Rattle.findings.specs.declared.Ruling.the-variants.{Pass, Fail, NotTestable, Refused}
 
 -- the findings of a listed code are those of the full list that have the code
 pub only-code : (p : Pack) (c : ℕ) → (tableOf c ≡ 0 → ⊥) → only c (findings p) ≡ ofCode p c (tableOf c)
-unfolding ofPlace codeAt tableAt
-only-code p c n =
-    let h : Place codes tables c (tableOf c) = listed-place c n in
-    ap (λ (d : ℕ). only d (findings p)) (sym (h .code)) ∙ only-place p (h .place) (h .within) ∙ ap (λ (d : ℕ). ofCode p d (getD tables (h .place) 0)) (h .code) ∙ ap (ofCode p c) (h .table)
+unfolding findingsOf ofPlaceBy ofCodeBy atRowBy atNoneBy codeIn tableIn tableBy findings ofPlace ofCode atRow atNone codeAt tableAt tableOf
+only-code p = scheme-only-code (tileScheme p) codes-sound
 
 -- ---- "a verdict is fail, with the lowest row, where the code has a finding": it is read off the full list
 pub verdict-of-list : (p : Pack) (c : ℕ) → (tableOf c ≡ 0 → ⊥) → ruled p c ≡ failOr (only c (findings p)) (withoutFinding c (rowsIn p (tableOf c)))

@@ -1,35 +1,31 @@
 -- Numbers fit their words: each number of an answer is below 2^32, so that its four octets read as the number itself.
 use Prim.Native.Nat.{ℕ, zero, suc, _+_, _*_, _-_, _<_, _≤_, min}
 use mathlib.Core.Path.{_≡_, refl, sym, ap, _∙_, subst}
-use mathlib.Core.Bool.{Bool, true, false, false≢true}
+use mathlib.Core.Bool.{true, false≢true}
 use mathlib.Core.List.{List, [], _∷_, _++_, append-assoc}
-use mathlib.Core.Logic.{inl, inr, ⊎-elim}
+use mathlib.Core.Logic.{inl, inr}
 use native.Mathlib.Nat.{le-of-suc-le-suc, not-suc-le-zero}
 use native.Mathlib.Omega.{arith}
-use lib.Dec.{ltb, ltb→lt}
 use lib.IntN.{ℤ}
 use lib.ListN.{length, getD, take, drop, length-take}
 use lib.Seq.{take-append-add}
 use Rattle.octets.specs.Octets.{le32, word, filled}
 use Rattle.octets.specs.BufferLaws.{filled-past}
 use Rattle.octets.specs.OctetLaws.{le32-word, le32-past}
-use Rattle.octets.specs.TableLaws.{at}
 use Rattle.listing.specs.Refusals.{outcome, isAccepted}
 use Rattle.listing.specs.declared.Outcome.the-variants as reading
-use Rattle.pack.specs.Rows.{Pack, rowsIn}
+use Rattle.pack.specs.Rows.{rowsIn}
 use Rattle.pack.specs.Tables.{packOf}
 use Rattle.pack.specs.PackLaws.{rows-most, rows-numbered}
 use Rattle.rules.specs.Judgments.{none}
-use Rattle.rules.specs.Codes.{codes, codeCount, codeAt, tableOf, judged, judgedNone}
-use Rattle.rules.specs.declared.Judgment.the-variants.{Hit}
-use Rattle.findings.specs.Findings.{Finding, findings, Every}
+use Rattle.rules.specs.CodeLaws.{codes-sound}
+use Rattle.findings.specs.Findings.{Finding, Every}
+use Rattle.findings.specs.Schemes.{tileScheme}
 use Rattle.findings.specs.Answers.{reported, ruled, verdictOf, tileAt, lookupOf}
 use Rattle.findings.specs.Words.{octetsOf, wordsOf, findingOctets, room, writtenOf, bufferOf, reportWords, rulingWords, locatedWords}
-use Rattle.findings.specs.Demands.{Listed, Due, Asked, Partner, Fits, AllFit}
-use Rattle.findings.specs.FindingLaws.{places-length}
-use Rattle.findings.specs.OrderLaws.{Numbered}
-use Rattle.findings.specs.StandsLaws.{every-stands}
-use Rattle.findings.specs.ReportedLaws.{listed-exactly, reported-judged, reported-none, reported-exactly}
+use Rattle.findings.specs.Demands.{Listed, Due, Partner, Fits, AllFit}
+use Rattle.findings.specs.SchemeLaws.{due-fits, outcome-length, outcome-fits}
+use Rattle.findings.specs.ReportedLaws.{tile-reported}
 use Rattle.findings.specs.PartnerLaws.{due-partner}
 use Rattle.findings.specs.RefusedLaws.{written-fit, place-fits}
 use Rattle.findings.specs.RulingLaws.{kind, ruled-kind, verdict-judged, verdict-cases, verdict-fail-rule}
@@ -40,45 +36,21 @@ use Rattle.findings.specs.declared.Located.{Located}
 use Rattle.findings.specs.declared.Located.the-variants as look
 
 -- ---- code, row and partner of a finding
--- the codes: one computed test
-small : ℕ → ℕ → Bool
-small k c = ltb c 4294967296
-
-code-fits : (k : ℕ) → k < codeCount → Fits (codeAt k)
-unfolding small codeAt
-code-fits k h = ltb→lt _ _ (at small codes tt k h)
-
-module _ (p : Pack) (numbered : Numbered p) where
-  row-fits : (f : Finding) → Due p f → Fits (f .row)
-  row-fits f d =
-      ⊎-elim (λ (q : (f .row < rowsIn p (tableOf (f .code))) × (judged p (f .code) (f .row) ≡ Hit (f .partner))). omega (arith, q .0, numbered (tableOf (f .code))))
-      (λ (q : (f .row ≡ none) × (judgedNone p (f .code) ≡ Hit (f .partner))). omega (arith, q .0)) (d .says)
-
-  partner-fits : (j : ℕ) → Partner p j → Fits j
-  partner-fits j (inl e) = omega arith
-  partner-fits j (inr q) = omega (arith, q .1, numbered (q .0))
-
-  due-fits : (f : Finding) → Due p f → AllFit (wordsOf f)
-  due-fits f d =
-      let k = listed-exactly (f .code) .0 (d .listed) in
-      (subst Fits (k .2) (code-fits (k .0) (k .1)), (row-fits f d, (partner-fits (f .partner) (due-partner p f d), tt)))
-
 module _ (s : List ℕ) where
-  asked-fits : (f : Finding) → Asked s f → AllFit (wordsOf f)
-  asked-fits f d = due-fits (packOf s) (rows-numbered s (d .0)) f (d .1)
+  partner-fits : isAccepted (outcome s) ≡ true → (f : Finding) → Due (packOf s) f → Fits (f .partner)
+  partner-fits a f d = by (due-partner (packOf s) f d)
+    where
+      by : Partner (packOf s) (f .partner) → Fits (f .partner)
+      by (inl e) = omega arith
+      by (inr q) = omega (arith, q .1, rows-numbered s a (q .0))
 
   -- code, row and partner of every finding of the report
   pub findings-fit : Every (λ f. AllFit (wordsOf f)) (reported s)
-  findings-fit = every-stands (λ f. AllFit (wordsOf f)) (reported s) .1 (λ f h. asked-fits f (reported-exactly s f .0 h))
+  findings-fit = subst (Every (λ f. AllFit (wordsOf f))) (tile-reported s) (outcome-fits (outcome s) (tileScheme (packOf s)) codes-sound (rows-numbered s) partner-fits)
 
   -- the total
   pub total-fits : Fits (length (reported s))
-  unfolding findings
-  total-fits = by (isAccepted (outcome s)) refl
-    where
-      by : (b : Bool) → isAccepted (outcome s) ≡ b → Fits (length (reported s))
-      by true a = rw (reported-judged s a) (omega (arith, places-length (packOf s) 262144 codeCount (rows-most s a)))
-      by false a = rw (reported-none s a) (omega arith)
+  total-fits = rw (← tile-reported s) (omega (arith, outcome-length (outcome s) (tileScheme (packOf s)) 262144 (rows-most s)))
 
   -- ---- the words of the three answers
   pub report-fits : (b : List ℕ) → AllFit (reportWords s b)
@@ -102,7 +74,7 @@ module _ (s : List ℕ) where
       by ruling.Pass l a e = written-fit (0 ∷ none ∷ 0 ∷ 0 ∷ 0 ∷ []) refl
       by (ruling.Fail i) l a e =
           let h = verdict-fail-rule s c i .0 (verdict-judged s c l a ∙ e) in
-          (omega arith, (subst Fits (h .row) (asked-fits (h .finding) (h .holds) .1 .0), written-fit (0 ∷ 0 ∷ 0 ∷ []) refl))
+          (omega arith, (subst Fits (h .row) (due-fits (tileScheme (packOf s)) codes-sound (rows-numbered s a) (partner-fits a) (h .finding) (h .holds .1) .1 .0), written-fit (0 ∷ 0 ∷ 0 ∷ []) refl))
       by ruling.NotTestable l a e = written-fit (2 ∷ none ∷ 0 ∷ 0 ∷ 0 ∷ []) refl
       by (ruling.Refused n t r) l a e = absurd (omega (arith, ap kind e, ruled-kind (packOf s) c))
 

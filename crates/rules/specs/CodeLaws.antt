@@ -1,5 +1,5 @@
 -- Lists of codes with their tables, and what is worked out once for each; the table of a code, at each place, and of a code that is none of some.
-use Prim.Native.Nat.{ℕ, zero, suc, _<_}
+use Prim.Native.Nat.{ℕ, suc, _<_}
 use mathlib.Core.Path.{_≡_, refl, sym, ap, _∙_}
 use mathlib.Core.Bool.{Bool, true, false, cond, _||_, false≢true}
 use mathlib.Core.List.{List, [], _∷_}
@@ -20,9 +20,9 @@ ascends ks k c = every (λ i d. cond (ltb i k) (ltb d c) true) 0 ks
 abbrev pub agrees : List ℕ → List ℕ → ℕ → ℕ → Bool
 agrees ks ts k c = eqb (seek ks ts c) (getD ts k 0)
 
--- and that is some table
-abbrev pub tabled : List ℕ → ℕ → ℕ → Bool
-tabled ts k c = ltb 0 (getD ts k 0)
+-- "each belongs to one table": that is some table
+abbrev pub belongs : List ℕ → ℕ → ℕ → Bool
+belongs ts k c = ltb 0 (getD ts k 0)
 
 -- a u32 holds the code
 abbrev pub small : ℕ → ℕ → Bool
@@ -31,7 +31,7 @@ small k c = ltb c 4294967296
 pub record Sound (ks ts : List ℕ) : Type 0 where
   pub ascend : T (every (ascends ks) 0 ks)
   pub agree : T (every (agrees ks ts) 0 ks)
-  pub somewhere : T (every (tabled ts) 0 ks)
+  pub belong : T (every (belongs ts) 0 ks)
   pub fit : T (every small 0 ks)
 
 -- ---- a code that belongs to a table has a place among the codes
@@ -78,12 +78,12 @@ module _ (ks ts : List ℕ) (sound : Sound ks ts) where
   pub codes-listed : (c : ℕ) → (seek ks ts c ≡ 0 → ⊥) ↔ ((k : ℕ) × (k < length ks) × (getD ks k 0 ≡ c))
   codes-listed c = (
     λ n. let h = code-place ks ts c n in (h .place, h .within, h .code),
-    λ h z. omega (arith, codes-agree (h .0) (h .1), ap (seek ks ts) (h .2), ltb→lt 0 (getD ts (h .0) 0) (at (tabled ts) ks (sound .somewhere) (h .0) (h .1))),
+    λ h z. omega (arith, codes-agree (h .0) (h .1), ap (seek ks ts) (h .2), ltb→lt 0 (getD ts (h .0) 0) (at (belongs ts) ks (sound .belong) (h .0) (h .1))),
   )
 
 -- ---- the 36
 pub codes-sound : Sound codes tables
-codes-sound = record { ascend = tt; agree = tt; somewhere = tt; fit = tt }
+codes-sound = record { ascend = tt; agree = tt; belong = tt; fit = tt }
 
 pub place-table : (k : ℕ) → k < codeCount → tableOf (codeAt k) ≡ tableAt k
 unfolding tableOf tableAt codeAt
