@@ -12,6 +12,7 @@ use Rattle.listing.specs.Listing.{table, rows, layout}
 use Rattle.listing.specs.Refusals.{Reason, headerReasons, rowReasons, decideBy, decide, checked, outcome, numberOf, tableOf, rowOf, isAccepted}
 use Rattle.listing.specs.ReasonLaws.{numberAt, numbersOf, answerBy, Free, Given, free-left, free-right, decide-both, decide-stop, decide-none, decide-fault, decide-clean, number-exactly, good-exactly}
 use Rattle.listing.specs.RefusalLaws.{reasons, accepted-exactly}
+use Rattle.listing.specs.FurtherLaws.{listing-said, further-refused, further-rest, further-exactly, further-place, further-accepted, further-listing}
 use Rattle.listing.specs.declared.Checked.{Checked}
 use Rattle.listing.specs.declared.Checked.the-variants.{Clean, Fault}
 use Rattle.listing.specs.declared.Outcome.{Outcome}
@@ -20,44 +21,22 @@ use Rattle.columns.specs.Refusals.{isShort, shortReason, entryText, faul
 
 -- ---- the listing first
 module _ (s : List ℕ) where
-  -- what its own reasons say where it is refused
-  listing-said : (n t i : ℕ) → outcome s ≡ Refused n t i → checked (reasons s) ≡ Fault n t i
-  unfolding outcome
-  listing-said n t i e = by (checked (reasons s)) refl
-    where
-      by : (c : Checked) → checked (reasons s) ≡ c → c ≡ Fault n t i
-      by Clean h = absurd (false≢true (sym (ap isAccepted (sym (decide-clean Refused (reasons s) (Accepted (layout s)) h) ∙ e))))
-      by (Fault m u j) h =
-          let q : Refused m u j ≡ Refused n t i = sym (decide-fault Refused (reasons s) (Accepted (layout s)) m u j h) ∙ e in
-          let a : m ≡ n = ap numberOf q in
-          let b : u ≡ t = ap tableOf q in
-          let c : j ≡ i = ap rowOf q in
-          rw (a, b, c)
-
   module _ (cs : List (List ℕ)) where
     -- "the listing's to 13": a refused listing is refused with the same number and place
     pub refused-same : isAccepted (outcome s) ≡ false → columnOutcome s cs ≡ outcome s
     unfolding columnOutcome
-    refused-same a = by (outcome s) refl a
-      where
-        by : (o : Outcome) → outcome s ≡ o → isAccepted o ≡ false → decide (reasons s ++ columnReasons (table s 5) (table s 7) cs) (Accepted (layout s)) ≡ o
-        by (Accepted l) e a = absurd (false≢true (sym a))
-        by (Refused n t i) e a =
-            decide-both Refused (reasons s) (columnReasons (table s 5) (table s 7) cs) (Accepted (layout s))
-            ∙ decide-fault Refused (reasons s) (decide (columnReasons (table s 5) (table s 7) cs) (Accepted (layout s))) n t i (listing-said n t i e)
+    refused-same = further-refused s (columnReasons (table s 5) (table s 7) cs)
 
     pub fill-same : (n t i : ℕ) → outcome s ≡ Refused n t i → fillAnswer s cs ≡ Fault n t i
     unfolding checked fillAnswer fillReasons
     fill-same n t i e =
         decide-both Fault (reasons s) (shortReason (rows 5 (table s 5)) cs ∷ []) Clean
-        ∙ decide-fault Fault (reasons s) (decideBy Fault (shortReason (rows 5 (table s 5)) cs ∷ []) Clean) n t i (listing-said n t i e)
+        ∙ decide-fault Fault (reasons s) (decideBy Fault (shortReason (rows 5 (table s 5)) cs ∷ []) Clean) n t i (listing-said s n t i e)
 
     -- of an accepted listing the columns decide
     pub column-rest : isAccepted (outcome s) ≡ true → columnOutcome s cs ≡ decide (columnReasons (table s 5) (table s 7) cs) (Accepted (layout s))
     unfolding columnOutcome
-    column-rest a =
-        decide-both Refused (reasons s) (columnReasons (table s 5) (table s 7) cs) (Accepted (layout s))
-        ∙ decide-none Refused (reasons s) (decide (columnReasons (table s 5) (table s 7) cs) (Accepted (layout s))) (accepted-exactly s .0 a)
+    column-rest = further-rest s (columnReasons (table s 5) (table s 7) cs)
 
     pub fill-rest : isAccepted (outcome s) ≡ true → fillAnswer s cs ≡ checked (shortReason (rows 5 (table s 5)) cs ∷ [])
     unfolding checked fillAnswer fillReasons
@@ -91,21 +70,22 @@ module _ (s : List ℕ) (cs : List (List ℕ)) where
   -- a number is given exactly where a reason of that number is there and none before it
   pub refused-exactly : (n : ℕ) → 0 < n → (numberOf (columnOutcome s cs) ≡ n) ↔ ((k : ℕ) × Given (allReasons s cs) k × (numberAt (allReasons s cs) k ≡ n))
   unfolding columnOutcome
-  refused-exactly n l = number-exactly Refused numberOf (λ n t r. refl) (allReasons s cs) (Accepted (layout s)) n refl l
+  refused-exactly = further-exactly s (columnReasons (table s 5) (table s 7) cs)
 
   -- and then with its place
   pub refused-place : (k : ℕ) → Given (allReasons s cs) k → columnOutcome s cs ≡ answerBy Refused (allReasons s cs) k (Accepted (layout s))
   unfolding columnOutcome
-  refused-place k g = decide-stop Refused (allReasons s cs) (Accepted (layout s)) k (g .passed) (g .there)
+  refused-place = further-place s (columnReasons (table s 5) (table s 7) cs)
 
   -- columns are accepted exactly where no reason is there
   pub accepted-columns : (isAccepted (columnOutcome s cs) ≡ true) ↔ Free (allReasons s cs)
   unfolding columnOutcome
-  accepted-columns = good-exactly Refused isAccepted (λ n t r. refl) (allReasons s cs) (Accepted (layout s)) refl
+  accepted-columns = further-accepted s (columnReasons (table s 5) (table s 7) cs)
 
   -- they belong to an accepted listing
   pub accepted-listing : isAccepted (columnOutcome s cs) ≡ true → isAccepted (outcome s) ≡ true
-  accepted-listing a = accepted-exactly s .1 (free-left (reasons s) (columnReasons (table s 5) (table s 7) cs) (accepted-columns .0 a))
+  unfolding columnOutcome
+  accepted-listing = further-listing s (columnReasons (table s 5) (table s 7) cs)
 
   -- and none of them is short
   pub accepted-long : isAccepted (columnOutcome s cs) ≡ true → isShort (rows 5 (table s 5)) cs ≡ false

@@ -203,13 +203,13 @@ impl NameTable {
     }
 }
 
-// Of the metadata; the third table, the names, is as above.
-pub struct MetadataTable {
+// Of the metadata: 11, gpkg_metadata, here notes, and 12, gpkg_metadata_reference, here links from a note to what it is about. The names, 13, are as above.
+pub struct NoteTable {
     pub count: u32,
     pub offset: u32,
 }
 
-impl MetadataTable {
+impl NoteTable {
     pub const ROW: u8 = 16;
 
     pub const MOST: u32 = 256;
@@ -221,12 +221,12 @@ impl MetadataTable {
     }
 }
 
-pub struct MetadataReferenceTable {
+pub struct LinkTable {
     pub count: u32,
     pub offset: u32,
 }
 
-impl MetadataReferenceTable {
+impl LinkTable {
     pub const ROW: u8 = 64;
 
     pub const MOST: u32 = 4096;

@@ -1,5 +1,5 @@
 -- `listing::rows/is_flagged` meets its contract.
-use Rattle.listing.proofs.Laws.{contents-end, reference-end}
+use Rattle.listing.proofs.Laws.{contents-end, link-end}
 use borrow.Author.Needs.{needs}
 use Rattle.listing.proofs.rows.is_flagged.Statement.{statement}
 use Rattle.listing.proofs.rows.is_flagged.Tie as tie
@@ -8,8 +8,8 @@ pub is-flagged-spec : {M : Type 1} → statement M
 is-flagged-spec =
     tie.close
     (tie.spec (λ c. search needs)
-    (λ c κs. search (contents-end, reference-end, needs))
+    (λ c κs. search (contents-end, link-end, needs))
     (λ c. search needs)
-    (λ c κs. search (contents-end, reference-end, needs))
+    (λ c κs. search (contents-end, link-end, needs))
     (λ c. cc)
     (λ c. cc))
