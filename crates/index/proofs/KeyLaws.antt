@@ -15,13 +15,13 @@ use Rattle.pack.specs.declared.SetRow.{SetRow}
 use Rattle.pack.specs.declared.MatrixRow.{MatrixRow}
 use Rattle.pack.specs.Tables.{contentsRow, setRow, matrixRow, contentOf, setOf, matrixOf, contentsOf, setsOf, matricesOf}
 use Rattle.spelling.specs.Words.{tiles}
-use Rattle.rules.specs.Contents.{ofType, givesTiles, setNamed}
+use Rattle.rules.specs.Contents.{ofType, givesTiles, contentNamed, setNamed}
 use Rattle.rules.specs.Matrices.{matrixNamed, atLevel, finer, breaks531}
 use Rattle.index.specs.declared.Kind.{Kind}
 use Rattle.index.specs.declared.Kind.the-variants as kind
 use Rattle.index.specs.declared.Key.{Key}
 use Rattle.index.specs.declared.Key.the-variants as key
-use Rattle.index.specs.Keys.{keyOf, answers, sure, kindOf, meaning}
+use Rattle.index.specs.Keys.{keyOf, answers, sure, kindOf, meaning, contentSpelled}
 
 pub eqZ-refl : (z : ℤ) → eqZ z z ≡ true
 eqZ-refl (pos a) = eq-eqb a a refl
@@ -32,6 +32,11 @@ pub by-name : {x y : List ℕ} → x ≡ y → _≡_ {A = List ℕ × ℤ × ℤ
 by-name e i = (e i, pos 0, pos 0, pos 0)
 
 module _ (t names : List ℕ) where
+  -- of a contents row the name may stand in octets of its own
+  pub content-sound : (x : List ℕ) (k : ℕ) → contentSpelled t names x k ≡ true → _≡_ {A = List ℕ × ℤ × ℤ × ℤ} (x, pos 0, pos 0, pos 0) (keyOf kind.ContentName t names k)
+  unfolding contentNamed
+  content-sound x k e = by-name (same-equal _ _ e)
+
   sound : (a : Key) (k : ℕ) → answers (kindOf a) t names (meaning names a) k ≡ true → meaning names a ≡ keyOf (kindOf a) t names k
   unfolding atLevel matrixNamed givesTiles setNamed
   sound (key.Level x z) k e =
@@ -44,6 +49,7 @@ module _ (t names : List ℕ) where
   sound (key.MatrixName x) k e = by-name (same-equal _ _ e)
   sound (key.TilesName x) k e =
       let q = contentsOf t names .row k in by-name (same-equal _ _ (and-eq-true-iff (same (meaning names (key.TilesName x) .0) (q .name)) (ofType tiles q) .0 e .0))
+  sound (key.ContentName x) k e = content-sound (spell names x) k e
   sound (key.SetName x) k e = by-name (same-equal _ _ e)
 
   -- where the kind is known
@@ -51,10 +57,11 @@ module _ (t names : List ℕ) where
   key-sound s a e k f = rw e at (sound a k (rw (← e) at f))
 
   own : (s : Kind) → sure s ≡ true → (k : ℕ) → answers s t names (keyOf s t names k) k ≡ true
-  unfolding atLevel matrixNamed setNamed
+  unfolding atLevel matrixNamed contentNamed setNamed
   own kind.Level o k = let q = matricesOf t names .row k in simp (sym (same-refl (q .name)), eqZ-refl (q .zoom))
   own kind.MatrixName o k = sym (same-refl (matricesOf t names .row k .name))
   own kind.TilesName o k = absurd (false≢true o)
+  own kind.ContentName o k = sym (same-refl (contentsOf t names .row k .name))
   own kind.SetName o k = sym (same-refl (setsOf t names .row k .name))
 
   -- b is what was told of its kind
@@ -72,9 +79,10 @@ module _ (t names : List ℕ) where
     unfolding matrixOf
     read-matrix-name q e = ap (λ (r : MatrixRow). meaning names (key.MatrixName (r .name))) e
 
-    pub read-tiles-name : (q : ContentsRow) → q ≡ contentsRow t k → meaning names (key.TilesName (q .name)) ≡ keyOf kind.TilesName t names k
+    -- that of a tiles name is the same
+    pub read-content-name : (q : ContentsRow) → q ≡ contentsRow t k → meaning names (key.ContentName (q .name)) ≡ keyOf kind.ContentName t names k
     unfolding contentOf
-    read-tiles-name q e = ap (λ (r : ContentsRow). meaning names (key.TilesName (r .name))) e
+    read-content-name q e = ap (λ (r : ContentsRow). meaning names (key.ContentName (r .name))) e
 
     pub read-set-name : (q : SetRow) → q ≡ setRow t k → meaning names (key.SetName (q .name)) ≡ keyOf kind.SetName t names k
     unfolding setOf

@@ -11,7 +11,7 @@ use Rattle.octets.specs.Texts.{spell}
 use Rattle.octets.specs.declared.Name.{Name}
 use Rattle.pack.specs.declared.MatrixRow.{MatrixRow}
 use Rattle.pack.specs.Tables.{matrixOf, contentsOf, setsOf, matricesOf}
-use Rattle.rules.specs.Contents.{givesTiles, setNamed}
+use Rattle.rules.specs.Contents.{givesTiles, contentNamed, setNamed}
 use Rattle.rules.specs.Matrices.{matrixNamed, atLevel, breaks531}
 use Rattle.seek.specs.Tests.{matrixPasses}
 use Rattle.seek.specs.declared.MatrixTest.{MatrixTest}
@@ -27,6 +27,7 @@ abbrev pub rowCount : Kind → List ℕ → ℕ
 rowCount kind.Level t = length t / 64
 rowCount kind.MatrixName t = length t / 64
 rowCount kind.TilesName t = length t / 40
+rowCount kind.ContentName t = length t / 40
 rowCount kind.SetName t = length t / 48
 
 -- the key of row k
@@ -34,13 +35,15 @@ abbrev pub keyOf : Kind → List ℕ → List ℕ → ℕ → (List ℕ × ℤ �
 keyOf kind.Level t names k = (matricesOf t names .row k .name, matricesOf t names .row k .zoom, pos 0, pos 0)
 keyOf kind.MatrixName t names k = (matricesOf t names .row k .name, pos 0, pos 0, pos 0)
 keyOf kind.TilesName t names k = (contentsOf t names .row k .name, pos 0, pos 0, pos 0)
+keyOf kind.ContentName t names k = (contentsOf t names .row k .name, pos 0, pos 0, pos 0)
 keyOf kind.SetName t names k = (setsOf t names .row k .name, pos 0, pos 0, pos 0)
 
--- row k answers to the key a, in the words of the rules. A contents row that makes its name no tiles name answers to none
+-- row k answers to the key a, in the words of the rules. A contents row that makes its name no tiles name answers to no tiles name
 abbrev pub answers : Kind → List ℕ → List ℕ → (List ℕ × ℤ × ℤ × ℤ) → ℕ → Bool
 answers kind.Level t names a k = atLevel (a .0) (a .1) (matricesOf t names .row k)
 answers kind.MatrixName t names a k = matrixNamed (a .0) (matricesOf t names .row k)
 answers kind.TilesName t names a k = givesTiles (a .0) (contentsOf t names .row k)
+answers kind.ContentName t names a k = contentNamed (a .0) (contentsOf t names .row k)
 answers kind.SetName t names a k = setNamed (a .0) (setsOf t names .row k)
 
 -- every row of a kind answers to its own key
@@ -48,6 +51,7 @@ abbrev pub sure : Kind → Bool
 sure kind.Level = true
 sure kind.MatrixName = true
 sure kind.TilesName = false
+sure kind.ContentName = true
 sure kind.SetName = true
 
 -- a key as the code has it: its kind, and what it is
@@ -55,12 +59,14 @@ abbrev pub kindOf : Key → Kind
 kindOf (key.Level x z) = kind.Level
 kindOf (key.MatrixName x) = kind.MatrixName
 kindOf (key.TilesName x) = kind.TilesName
+kindOf (key.ContentName x) = kind.ContentName
 kindOf (key.SetName x) = kind.SetName
 
 abbrev pub meaning : List ℕ → Key → (List ℕ × ℤ × ℤ × ℤ)
 meaning names (key.Level x z) = (spell names x, signed z, pos 0, pos 0)
 meaning names (key.MatrixName x) = (spell names x, pos 0, pos 0, pos 0)
 meaning names (key.TilesName x) = (spell names x, pos 0, pos 0, pos 0)
+meaning names (key.ContentName x) = (spell names x, pos 0, pos 0, pos 0)
 meaning names (key.SetName x) = (spell names x, pos 0, pos 0, pos 0)
 
 -- ---- what a walk asks of row k
@@ -71,6 +77,10 @@ answersTo t names a = answers (kindOf a) t names (meaning names a)
 -- whether it has a level
 abbrev pub leveled : List ℕ → List ℕ → Name → ℕ → ℕ → Bool
 leveled t names x z = λ k. atLevel (spell names x) (signed z) (matricesOf t names .row k)
+
+-- whether it is a contents row with a name that is given by its octets
+abbrev pub contentSpelled : List ℕ → List ℕ → List ℕ → ℕ → Bool
+contentSpelled t names x = λ k. contentNamed x (contentsOf t names .row k)
 
 -- whether it passes a test
 abbrev pub passing : List ℕ → List ℕ → MatrixTest → ℕ → Bool

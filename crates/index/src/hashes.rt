@@ -124,13 +124,19 @@ fn in_block(zoom: u64, column: u64, row: u64) -> u64
     ((zoom % SIDE * SIDE + row % SIDE) * SIDE + column % SIDE) * 65537
 }
 
-// The mix of a name and three numbers, given by their patterns.
+// The mix of a name, lent as its octets, and three numbers, given by their patterns.
+pub fn mix_by(named: &[u8], zoom: u64, column: u64, row: u64) -> usize
+    ensures { λ r. ⌜ (r ≡ keyMix (now (named .entry), signed zoom, signed column, signed row)) × (r < mixRange) ⌝ }
+{
+    let block = stir(name_mix(named) ^ sum(zoom / SIDE, column / SIDE, row / SIDE));
+    ((block + in_block(zoom, column, row)) % HALF_RANGE) as usize
+}
+
+// The mix of a name among names, and three numbers.
 pub fn mix_of(names: &[u8], name: Name, zoom: u64, column: u64, row: u64) -> usize
     ensures { λ r. ⌜ (r ≡ keyMix (spell (now (names .entry)) name, signed zoom, signed column, signed row)) × (r < mixRange) ⌝ }
 {
-    let named = name_mix(octets::spelled(names, name));
-    let block = stir(named ^ sum(zoom / SIDE, column / SIDE, row / SIDE));
-    ((block + in_block(zoom, column, row)) % HALF_RANGE) as usize
+    mix_by(octets::spelled(names, name), zoom, column, row)
 }
 
 // The mix of a key.
@@ -141,6 +147,7 @@ pub fn mix(names: &[u8], key: Key) -> usize
         Key::Level { name, zoom } => mix_of(names, name, zoom, 0, 0),
         Key::MatrixName(x) => mix_of(names, x, 0, 0, 0),
         Key::TilesName(x) => mix_of(names, x, 0, 0, 0),
+        Key::ContentName(x) => mix_of(names, x, 0, 0, 0),
         Key::SetName(x) => mix_of(names, x, 0, 0, 0),
     }
 }

@@ -19,6 +19,7 @@ pub fn count(rows: &[u8], kind: Kind) -> usize
         Kind::Level => rows.len() / (MatrixTable::ROW as usize),
         Kind::MatrixName => rows.len() / (MatrixTable::ROW as usize),
         Kind::TilesName => rows.len() / (ContentsTable::ROW as usize),
+        Kind::ContentName => rows.len() / (ContentsTable::ROW as usize),
         Kind::SetName => rows.len() / (SetTable::ROW as usize),
     }
 }
@@ -30,6 +31,7 @@ pub fn kind_of(key: Key) -> Kind
         Key::Level { .. } => Kind::Level,
         Key::MatrixName(_) => Kind::MatrixName,
         Key::TilesName(_) => Kind::TilesName,
+        Key::ContentName(_) => Kind::ContentName,
         Key::SetName(_) => Kind::SetName,
     }
 }
@@ -51,6 +53,10 @@ pub fn key_at(rows: &[u8], names: &[u8], kind: Kind, k: usize) -> Key
         Kind::TilesName => {
             let name = pack::contents_at(rows, k).name;
             Key::TilesName(name)
+        }
+        Kind::ContentName => {
+            let name = pack::contents_at(rows, k).name;
+            Key::ContentName(name)
         }
         Kind::SetName => {
             let name = pack::set_at(rows, k).name;
@@ -78,6 +84,11 @@ pub fn does_answer(rows: &[u8], names: &[u8], key: Key, k: usize) -> bool
             ContentTest::Tiles(x),
             pack::contents_at(rows, k),
         ),
+        Key::ContentName(x) => seek::content_passes(
+            names,
+            ContentTest::Named(x),
+            pack::contents_at(rows, k),
+        ),
         Key::SetName(x) => seek::set_passes(names, SetTest::Named(x), pack::set_at(rows, k)),
     }
 }
@@ -90,6 +101,7 @@ fn is_sure(kind: Kind) -> bool
         Kind::Level => true,
         Kind::MatrixName => true,
         Kind::TilesName => false,
+        Kind::ContentName => true,
         Kind::SetName => true,
     }
 }

@@ -1,6 +1,7 @@
 // Rows found by their keys in near-constant time: one chained index over lent octets, for every kind of key.
 use octets::Name;
 
+mod contents;
 mod entries;
 mod hashes;
 mod keys;
@@ -10,6 +11,7 @@ mod sizes;
 mod tiles;
 mod work;
 
+pub use contents::find_content;
 pub use entries::find;
 pub use entries::index_all;
 pub use keys::count;
@@ -29,8 +31,9 @@ pub enum Kind {
     // matrices
     Level,
     MatrixName,
-    // contents rows that make their name a tiles name
+    // contents rows that make their name a tiles name, and all contents rows
     TilesName,
+    ContentName,
     // sets
     SetName,
 }
@@ -40,5 +43,6 @@ pub enum Key {
     Level { name: Name, zoom: u64 },
     MatrixName(Name),
     TilesName(Name),
+    ContentName(Name),
     SetName(Name),
 }

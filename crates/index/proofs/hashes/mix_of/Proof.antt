@@ -1,23 +1,11 @@
 -- `index::hashes/mix_of` meets its contract.
-use native.Mathlib.Nat.{mod-lt}
-use native.Mathlib.Omega.{arith}
-use mir.Syntax.{w64}
-use mir.ValLaws.{ofZ-toZ}
-use Rattle.index.specs.Hashes.{mixed, keyMix}
 use borrow.Author.Needs.{needs}
 use Rattle.index.proofs.hashes.mix_of.Statement.{statement}
 use Rattle.index.proofs.hashes.mix_of.Tie as tie
 
 pub mix-of-spec : {M : Type 1} → statement M
-unfolding mixed keyMix
 mix-of-spec =
     tie.close
     (tie.spec (λ c κs. search needs)
     (λ c κs. search needs)
-    (λ c κs. search needs)
-    (λ c κs. search needs)
-    (λ c κs. search needs)
-    (λ c. search needs)
-    (λ c.
-    let f = c .before .before .before .before .before .before .fits in
-    (simp (ofZ-toZ w64 _ (f .zoom), ofZ-toZ w64 _ (f .column), ofZ-toZ w64 _ (f .row)) (cc), mod-lt _ (omega arith))))
+    (λ c. rw (c .before .spelled .ensures) at (c .mix-by .ensures)))
