@@ -1,28 +1,26 @@
 -- What a caller of the calls on a listing has from their promises: one answer, which its words read as, and a refusal that writes nothing.
 use Prim.Native.Nat.{ℕ, _+_, _*_, _<_, _≤_}
 use mathlib.Core.List.{List, _∷_, _++_}
-use mathlib.Core.Path.{_≡_, refl, sym, ap, _∙_, subst}
-use mathlib.Core.Bool.{Bool, true, false}
-use mathlib.Core.Logic.{inl}
+use mathlib.Core.Path.{_≡_, refl, sym, _∙_, subst}
+use mathlib.Core.Bool.{true}
 use native.Mathlib.Omega.{arith}
-use borrow.Author.Tests.{lt-ltb, le-ltb}
+use borrow.Author.Tests.{lt-ltb}
 use lib.IntN.{ℤ}
-use lib.ListN.{length, getD, drop}
+use lib.ListN.{length, getD}
 use Rattle.octets.specs.Octets.{le32}
-use Rattle.listing.specs.Refusals.{outcome, numberOf, isAccepted}
+use Rattle.listing.specs.Refusals.{outcome, numberOf}
 use Rattle.listing.specs.declared.Outcome.{Outcome}
 use Rattle.findings.specs.Findings.{Finding}
 use Rattle.findings.specs.Answers.{reported, verdictOf, isRefused, lookupOf}
-use Rattle.findings.specs.Words.{wordsOf, writtenOf, bufferOf, reportWords, rulingWords, locatedWords, answered}
-use Rattle.findings.specs.Demands.{Stands, AllFit}
-use Rattle.findings.specs.StandsLaws.{stands-right, every-stands}
+use Rattle.findings.specs.Words.{wordsOf, writtenOf, reportWords, rulingWords, locatedWords}
 use Rattle.findings.specs.ReportedLaws.{reported-none}
 use Rattle.findings.specs.RefusedLaws.{accepted-number}
-use Rattle.findings.specs.WordLaws.{buffer-none, buffer-past, words-read, finding-read, findings-fit, report-fits, verdict-fits, lookup-fits}
+use Rattle.findings.specs.WordLaws.{findings-fit, report-fits, verdict-fits, lookup-fits}
 use Rattle.findings.specs.declared.Ruling.{Ruling}
 use Rattle.findings.specs.declared.Ruling.the-variants.{Pass, Fail, NotTestable, Refused}
 use Rattle.findings.specs.declared.Located.{Located}
 use Rattle.findings.specs.declared.Located.the-variants as look
+use Rattle.desterlin.specs.AnswerLaws.{Readable, answer-read, answer-reads, answer-number, answer-total, answer-written, answer-finding, answer-past, answer-refused-kept}
 use Rattle.desterlin.specs.Calls.{ReportAnswer, ReportCall, VerdictCall, LookupAnswer, LookupCall}
 
 -- ---- two answers that keep one promise are the same
@@ -63,60 +61,34 @@ lookup-short-kept {a = a} p h =
     let t = lt-ltb (length a) 16 h in
     (p .status ∙ rw t, p .answer ∙ rw t)
 
--- ---- each word of an answer reads as its number
-pub answer-read : (size : ℕ) (ws a a′ : List ℕ) (k : ℕ) → size ≤ length a → AllFit ws → k < length ws → a′ ≡ answered size ws a → le32 a′ (4 * k) ≡ getD ws k 0
-answer-read size ws a a′ k h f l e =
-    ap (λ (x : List ℕ). le32 x (4 * k)) (e ∙ rw (le-ltb (length a) size h)) ∙ words-read ws (drop size a) k f l
+-- ---- what the report on a listing reads as: AnswerLaws, of its own findings
+pub reported-readable : (s : List ℕ) → Readable (outcome s) (reported s)
+unfolding reportWords
+reported-readable s = record { words = report-fits s; findings = findings-fit s; accepted = accepted-number s .1; refused = reported-none s }
 
 module _ (s : List ℕ) {b w a : List ℕ} {r : ℕ} {b′ w′ a′ : List ℕ} (p : ReportCall s b w a r b′ w′ a′) (whole : 20 ≤ length a) where
   pub report-reads : (k : ℕ) → k < 5 → le32 a′ (4 * k) ≡ getD (reportWords s b) k 0
   unfolding reportWords
-  report-reads k l = answer-read 20 (reportWords s b) a a′ k whole (report-fits s b) l (p .answer)
+  report-reads = answer-reads (reported-readable s) p whole
 
-  -- the number of the refusal, 0 where there is none
   pub report-number : le32 a′ 0 ≡ numberOf (outcome s)
-  unfolding reportWords
-  report-number = report-reads 0 (omega arith)
+  report-number = answer-number (reported-readable s) p whole
 
-  -- "the total is full even where the buffer is short": it is how many findings there are, whatever the buffer
   pub report-total : le32 a′ 12 ≡ length (reported s)
-  unfolding reportWords
-  report-total = report-reads 3 (omega arith)
+  report-total = answer-total (reported-readable s) p whole
 
   pub report-written : le32 a′ 16 ≡ writtenOf (reported s) b
-  unfolding reportWords
-  report-written = report-reads 4 (omega arith)
+  report-written = answer-written (reported-readable s) p whole
 
-  wrote : b′ ≡ bufferOf (reported s) b
-  wrote = p .findings ∙ rw (le-ltb (length a) 20 whole)
-
-  -- code, row and partner of each finding that is written
   pub report-finding : (before : List Finding) (f : Finding) (after : List Finding) (k : ℕ) → reported s ≡ before ++ f ∷ after → length before < le32 a′ 16 → k < 3
       → le32 b′ (12 * length before + 4 * k) ≡ getD (wordsOf f) k 0
-  report-finding before f after k e l h =
-      ap (λ (x : List ℕ). le32 x (12 * length before + 4 * k)) (wrote ∙ ap (λ (fs : List Finding). bufferOf fs b) e) ∙ finding-read b before f after k fits written h
-    where
-      fits : AllFit (wordsOf f)
-      fits = every-stands (λ g. AllFit (wordsOf g)) (reported s) .0 (findings-fit s) f (subst (Stands f) (sym e) (stands-right f before (f ∷ after) (inl refl)))
+  report-finding = answer-finding (reported-readable s) p whole
 
-      written : length before < writtenOf (before ++ f ∷ after) b
-      written = subst (λ (n : ℕ). length before < n) (report-written ∙ ap (λ (fs : List Finding). writtenOf fs b) e) l
-
-  -- "words past those keep their values", and so do the octets past the last whole word
   pub report-past : (j : ℕ) → 12 * le32 a′ 16 ≤ j → getD b′ j 0 ≡ getD b j 0
-  report-past j l = ap (λ (x : List ℕ). getD x j 0) wrote ∙ buffer-past (reported s) b j (subst (λ (n : ℕ). 12 * n ≤ j) report-written l)
+  report-past = answer-past (reported-readable s) p whole
 
-  -- "a refusal writes nothing": findings and workspace keep their octets, total and written are 0
   pub report-refused-kept : (le32 a′ 0 ≡ 0 → ⊥) → (b′ ≡ b) × (w′ ≡ w) × (le32 a′ 12 ≡ 0) × (le32 a′ 16 ≡ 0)
-  unfolding writtenOf
-  report-refused-kept n =
-      let x = turned (isAccepted (outcome s)) refl in
-      let none = reported-none s x in
-      (wrote ∙ ap (λ (fs : List Finding). bufferOf fs b) none ∙ buffer-none b, p .refused x, report-total ∙ ap length none, report-written ∙ ap (λ (fs : List Finding). writtenOf fs b) none ∙ omega arith)
-    where
-      turned : (o : Bool) → isAccepted (outcome s) ≡ o → isAccepted (outcome s) ≡ false
-      turned true e = absurd (n (report-number ∙ accepted-number s .1 e))
-      turned false e = e
+  report-refused-kept = answer-refused-kept (reported-readable s) p whole
 
 module _ {s : List ℕ} {code : ℕ} {w a : List ℕ} {r : ℕ} {w′ a′ : List ℕ} (p : VerdictCall s code w a r w′ a′) (whole : 20 ≤ length a) where
   pub verdict-reads : (k : ℕ) → k < 5 → le32 a′ (4 * k) ≡ getD (rulingWords (verdictOf s code)) k 0

@@ -1,4 +1,4 @@
--- What the seven calls for C promise: the value returned, and every octet of every buffer that is lent to be written.
+-- What the eight calls for C promise: the value returned, and every octet of every buffer that is lent to be written.
 -- What is left open is the workspace after an accepted call, which is scratch.
 use Prim.Native.Nat.{ℕ}
 use mathlib.Core.List.{List, [], _∷_}
@@ -15,12 +15,14 @@ use Rattle.listing.specs.declared.Checked.the-variants.{Clean, Fault}
 use Rattle.listing.specs.declared.Outcome.{Outcome}
 use Rattle.columns.specs.Refusals.{columnOutcome, fillAnswer}
 use Rattle.columns.specs.Tiles.{given}
+use Rattle.metadata.specs.Refusals.{metadataOutcome}
 use Rattle.writer.specs.Writing.{writeAnswer, numberIn, tableIn, rowIn, octetsIn, givenOf}
 use Rattle.writer.specs.declared.Written.{Written}
 use Rattle.report.specs.declared.Summary.{Summary}
 use Rattle.findings.specs.Findings.{Finding}
 use Rattle.findings.specs.Answers.{reported, verdictOf, isRefused, lookupOf}
 use Rattle.findings.specs.ColumnAnswers.{columnReported, columnLookup}
+use Rattle.findings.specs.MetadataAnswers.{metadataReported}
 use Rattle.findings.specs.declared.Located.{Located}
 use Rattle.findings.specs.Words.{bufferOf, reportWordsBy, rulingWords, locatedWords, isShort, statusOf, answered}
 
@@ -39,6 +41,10 @@ pub record ReportAnswer (o : Outcome) (fs : List Finding) (b w a : List ℕ) (r 
 -- s is the listing
 abbrev pub ReportCall : List ℕ → List ℕ → List ℕ → List ℕ → ℕ → List ℕ → List ℕ → List ℕ → Type 0
 ReportCall s b w a r b′ w′ a′ = ReportAnswer (outcome s) (reported s) b w a r b′ w′ a′
+
+-- m is the metadata listing beside it
+abbrev pub MetadataReportCall : List ℕ → List ℕ → List ℕ → List ℕ → List ℕ → ℕ → List ℕ → List ℕ → List ℕ → Type 0
+MetadataReportCall s m b w a r b′ w′ a′ = ReportAnswer (metadataOutcome s m) (metadataReported s m) b w a r b′ w′ a′
 
 pub record VerdictCall (s : List ℕ) (code : ℕ) (w a : List ℕ) (r : ℕ) (w′ a′ : List ℕ) : Type 0 where
   pub status : r ≡ statusOf 20 a

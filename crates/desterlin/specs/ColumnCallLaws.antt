@@ -28,7 +28,7 @@ use Rattle.findings.specs.ColumnLaws.{filled-reported, filled-lookup}
 use Rattle.findings.specs.RefusedLaws.{written-fit, place-fits}
 use Rattle.findings.specs.declared.Located.{Located}
 use Rattle.desterlin.specs.Calls.{ReportAnswer, ReportCall, LookupAnswer, LookupCall, ColumnReportCall, ColumnLookupCall, checkedWords, FillCall}
-use Rattle.desterlin.specs.CallLaws.{answer-read}
+use Rattle.desterlin.specs.AnswerLaws.{answer-read}
 
 -- ---- two answers that keep one promise are the same
 pub fill-one : {s : List ℕ} {bs : List (List ℕ)} {a : List ℕ} {r₁ r₂ : ℕ} {cs₁ cs₂ : List (List ℕ)} {a₁ a₂ : List ℕ} → FillCall s bs a r₁ cs₁ a₁ → FillCall s bs a r₂ cs₂ a₂

@@ -28,7 +28,7 @@ use Rattle.pack.specs.declared.Form.the-variants as form
 use Rattle.findings.specs.Demands.{AllFit}
 use Rattle.findings.specs.RefusedLaws.{written-fit, place-fits}
 use Rattle.desterlin.specs.Calls.{writtenWords, WriteCall}
-use Rattle.desterlin.specs.CallLaws.{answer-read}
+use Rattle.desterlin.specs.AnswerLaws.{answer-read}
 
 -- ---- two answers that keep one promise are the same
 pub write-one : {ts : List (List ℕ)} {b a : List ℕ} {r₁ r₂ : ℕ} {b₁ b₂ a₁ a₂ : List ℕ}

@@ -1,4 +1,4 @@
-// The seven calls for C. Numbers and octet buffers only; words are little-endian. docs/API.md is for their callers.
+// The eight calls for C. Numbers and octet buffers only; words are little-endian. docs/API.md is for their callers.
 ghost use mathlib.Core.Path.{_≡_};
 ghost use mathlib.Core.List.{[], _∷_};
 ghost use Prim.Native.Nat.{_≤_};
@@ -6,7 +6,7 @@ ghost use lib.ListN.{length};
 ghost use lib.Seq.{sets};
 ghost use Rattle.octets.specs.Numbers.{signed};
 ghost use Rattle.findings.specs.Words.{octetsOf};
-ghost use Rattle.desterlin.specs.Calls.{summaryWords, ReportCall, VerdictCall, LookupCall, writtenWords, WriteCall, ColumnReportCall, ColumnLookupCall, checkedWords, FillCall};
+ghost use Rattle.desterlin.specs.Calls.{summaryWords, ReportCall, MetadataReportCall, VerdictCall, LookupCall, writtenWords, WriteCall, ColumnReportCall, ColumnLookupCall, checkedWords, FillCall};
 use listing::Checked;
 use report::Summary;
 use writer::Written;
@@ -35,6 +35,25 @@ pub extern "C" fn desterlin_report(
         return 0;
     }
     let a = report::report(listing, findings, work);
+    put_summary(answer, a);
+    1
+}
+
+// Everything that is wrong with the metadata of a sibling listing, beside its tile listing. The answer: as the report's.
+#[no_mangle]
+pub extern "C" fn desterlin_report_metadata<'a>(
+    listing: &'a [u8],
+    metadata: &'a [u8],
+    findings: &mut [u8],
+    work: &mut [u8],
+    answer: &mut [u8],
+) -> u32
+    ensures { λ r. ⌜ MetadataReportCall (now (listing .entry)) (now (metadata .entry)) (now (findings .entry)) (now (work .entry)) (now (answer .entry)) r (now (findings .exit)) (now (work .exit)) (now (answer .exit)) ⌝ }
+{
+    if answer.len() < 20 {
+        return 0;
+    }
+    let a = report::report_metadata(listing, metadata, findings, work);
     put_summary(answer, a);
     1
 }

@@ -21,3 +21,5 @@ pub mod LocatedLaws
 pub mod WordLaws
 pub mod FarLaws
 pub mod ColumnLaws
+pub mod MetadataAnswers
+pub mod MetadataLaws

@@ -11,6 +11,7 @@ use Rattle.octets.specs.Texts.{Nullable, There, Null}
 use Rattle.spelling.specs.ExtensionNames.{inside, isExtensionName}
 use Rattle.rules.specs.Judgments.{none, partner}
 use Rattle.rules.specs.Extensions.{lacks601}
+use Rattle.rules.specs.JudgmentLaws.{is-found, searched, found, missed}
 use Rattle.rules.specs.declared.Judgment.{Judgment}
 use Rattle.rules.specs.declared.Judgment.the-variants.{Clean, Hit}
 use Rattle.index.specs.WorkLaws.{partner-of-all}
@@ -30,21 +31,6 @@ turned true = refl
 turned false = refl
 
 pub ruleset wrongs = (not-same, not-false, tests, needs)
-
--- a search below n has answered r
-pub is-found : (p : ℕ → Bool) (n r : ℕ) → r ≡ first p n → ltb r n ≡ any p n
-unfolding any
-is-found p n r e = simp (← e)
-
-module _ (p : ℕ → Bool) (n r : ℕ) (v w u : Judgment) (e : r ≡ first p n) where
-  pub searched : v ≡ cond (ltb r n) w u → v ≡ cond (any p n) w u
-  searched q = simp (← is-found p n r e) q
-
-  pub found : r < n → v ≡ w → v ≡ cond (any p n) w u
-  found l q = searched (simp (lt-ltb r n l) q)
-
-  pub missed : n ≤ r → v ≡ u → v ≡ cond (any p n) w u
-  missed l q = searched (simp (le-ltb r n l) q)
 
 pub ruleset searches = (is-found, searched, found, missed, needs)
 

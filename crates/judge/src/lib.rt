@@ -32,8 +32,9 @@ use references::lacks_id;
 use sets::judge_set;
 use tiles::judge_tile;
 
-// For a search that finds the row by other means, as by an index.
+// For rules judged elsewhere, and for a search that finds the row by other means, as by an index.
 pub use contents::unless_tiles_name;
+pub use judgments::fault_if;
 pub use judgments::partner_of;
 pub use judgments::unless_found;
 pub use matrices::first_step;

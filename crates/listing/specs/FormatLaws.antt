@@ -16,12 +16,13 @@ use Rattle.octets.specs.SearchLaws.{none-at}
 use Rattle.octets.specs.Texts.{outside}
 use Rattle.octets.specs.declared.Text.{Text}
 use Rattle.octets.specs.Gather.{gather}
-use Rattle.listing.specs.Formats.{edition, headerSize, longest, tableCount, rowIn, mostIn}
+use Rattle.listing.specs.Formats.{row, most, metadataRow, metadataMost, edition, headerSize, longest, tableCount, rowIn, mostIn}
 use Rattle.listing.specs.Listing.{version, total, count, offset, start, tableIn, rowsAs}
 use Rattle.listing.specs.TableLaws.{row-none, tables-some, row-some-in, seven-in}
 use Rattle.listing.specs.Refusals.{over, moved, ill, faultyRow, lowestFaultyRow, faultyTable, flagged, headerReasons, rowReasons, reasonsIn}
 use Rattle.listing.specs.ReasonLaws.{Free}
 use Rattle.listing.specs.declared.Format.{Format}
+use Rattle.listing.specs.declared.Format.the-variants.{Edition1, Metadata}
 
 or-left : (a b : Bool) → (a || b) ≡ false → a ≡ false
 or-left true b e = e
@@ -35,6 +36,16 @@ or-right false b e = e
 start-grows-in : (f : Format) (s : List ℕ) (k n : ℕ) → k ≤ n → start f s k ≤ start f s n
 unfolding start
 start-grows-in f s k n l = le-ind (λ (m : ℕ). start f s k ≤ start f s m) (le-refl _) (λ m _ q. omega (arith, q)) n l
+
+-- "the header and all tables at their most": what the longest listing has before table k
+abbrev pub fullBefore : Format → ℕ → ℕ
+fullBefore f zero = headerSize f
+fullBefore f (suc k) = fullBefore f k + rowIn f k * mostIn f k
+
+pub longest-full : (f : Format) → fullBefore f (tableCount f + 1) ≡ longest f
+unfolding row most metadataRow metadataMost
+longest-full Edition1 = refl
+longest-full Metadata = refl
 
 module _ (f : Format) (s : List ℕ) (a : Free (reasonsIn f s)) where
   none-over : (k : ℕ) → k ≤ tableCount f → over f s k ≡ false

@@ -13,6 +13,7 @@ use header::count_of;
 pub use header::most_of;
 use header::offset_of;
 pub use header::row_of;
+pub use header::table_in;
 pub use header::table_of;
 pub use put::put_header;
 pub use put::start_by;

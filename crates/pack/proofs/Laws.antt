@@ -1,35 +1,29 @@
--- A row that is there, and one past the last: one pair of laws for all tables. Entries of columns. And a number that is no table's.
+-- A row by a count that was asked for, entries of columns, and a number that is no table's.
 use Prim.Native.Nat.{ℕ, zero, suc, _+_, _*_, _<_, _≤_}
 use mathlib.Core.Path.{_≡_, refl, sym, ap, _∙_, subst}
 use mathlib.Core.List.{List}
 use mathlib.Core.Bool.{cond}
 use native.Mathlib.Omega.{arith}
 use borrow.Author.Needs.{needs}
-use borrow.Author.Tests.{lt-ltb, le-ltb}
 use lib.Dec.{ltb}
 use lib.ListN.{length}
 use Rattle.octets.specs.Slices.{nth}
 use Rattle.listing.specs.Listing.{tablesOf}
 use Rattle.pack.specs.Rows.{Pack, rowsIn}
+use Rattle.pack.specs.PackLaws.{row-there, row-past}
 use Rattle.pack.specs.Tables.{tileRow, tileCount, tileIn, withTiles, packIn, packOf}
 use Rattle.pack.specs.Columns.{entries, entryCount}
 use Rattle.pack.specs.declared.Form.{Form}
 use Rattle.pack.specs.declared.Form.the-variants as form
 use Rattle.pack.specs.declared.TileRow.{TileRow}
 
-module _ {ℓ} {A : Type ℓ} (i n : ℕ) (r x blank : A) where
-  pub row-there : i < n → r ≡ x → r ≡ cond (ltb i n) x blank
-  row-there l e = simp (lt-ltb i n l) e
-
-  pub row-past : n ≤ i → r ≡ blank → r ≡ cond (ltb i n) x blank
-  row-past l e = simp (le-ltb i n l) e
-
+module _ {A : Type 0} (i n : ℕ) (r x blank : A) where
   -- by a count that was asked for
   pub counted-there : (m : ℕ) → m ≡ n → i < m → r ≡ x → r ≡ cond (ltb i n) x blank
-  counted-there m q l e = row-there (subst (λ (k : ℕ). i < k) q l) e
+  counted-there m q l e = row-there i n r x blank (subst (λ (k : ℕ). i < k) q l) e
 
   pub counted-past : (m : ℕ) → m ≡ n → m ≤ i → r ≡ blank → r ≡ cond (ltb i n) x blank
-  counted-past m q l e = row-past (subst (λ (k : ℕ). k ≤ i) q l) e
+  counted-past m q l e = row-past i n r x blank (subst (λ (k : ℕ). k ≤ i) q l) e
 
 pub ruleset rows = (row-there, row-past, needs)
 

@@ -4,7 +4,7 @@ use mathlib.Core.Path.{_≡_, refl, sym, _∙_, subst, fun-ext}
 use mathlib.Core.List.{List, []}
 use mathlib.Core.Bool.{Bool, true, false, cond}
 use native.Mathlib.Omega.{arith}
-use borrow.Author.Tests.{le-ltb, ltb-true, ltb-false}
+use borrow.Author.Tests.{lt-ltb, le-ltb, ltb-true, ltb-false}
 use lib.Dec.{ltb, leb}
 use lib.ListN.{length, take, drop}
 use Rattle.octets.specs.Octets.{part}
@@ -57,6 +57,14 @@ pub tiles-past : (f : Form) (ts : List (List ℕ)) (names : List ℕ) → Past (
 unfolding tileCount tileIn tileRow entryRow tileOf
 tiles-past form.Rows ts names i l = simp (le-ltb i (length (nth ts 4) / 32) l, part-none names, part-none [])
 tiles-past form.Columns ts names i l = simp (le-ltb i (entryCount (nth ts 4) (nth ts 7) (nth ts 8) (nth ts 9)) l, part-none names, part-none [])
+
+-- a row that is there, and one past the last: one pair of laws for all tables
+module _ {A : Type 0} (i n : ℕ) (r x blank : A) where
+  pub row-there : i < n → r ≡ x → r ≡ cond (ltb i n) x blank
+  row-there l e = simp (lt-ltb i n l) e
+
+  pub row-past : n ≤ i → r ≡ blank → r ≡ cond (ltb i n) x blank
+  row-past l e = simp (le-ltb i n l) e
 
 -- ---- the same rows
 -- two tables have as many rows, and the same ones

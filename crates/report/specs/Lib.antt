@@ -4,3 +4,4 @@ pub mod Promises
 pub mod PromiseLaws
 pub mod Walks
 pub mod WalkLaws
+pub mod NoteLaws

@@ -17,11 +17,16 @@ use Rattle.pack.specs.declared.Form.the-variants as form
 use Rattle.columns.specs.Refusals.{columnOutcome}
 use Rattle.columns.specs.Tiles.{columnTables, columnPack}
 use Rattle.columns.specs.CountLaws.{columns-numbered}
+use Rattle.metadata.specs.Tables.{tablesFor, notebookIn, notebookOf}
+use Rattle.metadata.specs.Refusals.{metadataOutcome}
+use Rattle.metadata.specs.MetadataLaws.{rows-most}
 use Rattle.rules.specs.Codes.{tableOf as tableOfCode}
 use Rattle.rules.specs.Judgments.{none}
 use Rattle.findings.specs.Findings.{Finding, ofCode, findings}
 use Rattle.findings.specs.Answers.{findingsBy, reported, failOr, withoutFinding, ruled, verdictOf, isRefused}
 use Rattle.findings.specs.ColumnAnswers.{columnReported}
+use Rattle.findings.specs.Schemes.{Scheme, findingsOf}
+use Rattle.findings.specs.MetadataAnswers.{metadataScheme, metadataReported}
 use Rattle.findings.specs.RulingLaws.{kind, ruled-kind, verdict-unlisted as unlisted, verdict-turned, verdict-judged}
 use Rattle.findings.specs.WordLaws.{buffer-none}
 use Rattle.findings.specs.OrderLaws.{Numbered}
@@ -31,7 +36,8 @@ use Rattle.findings.specs.declared.Ruling.the-variants.{Pass, Fail, NotTestable
 use Rattle.findings.specs.declared.Ruling.the-variants as ruling
 use Rattle.report.specs.Buffers.{headRow, Added, noTally}
 use Rattle.report.specs.BufferLaws.{put-all}
-use Rattle.report.specs.Promises.{ReportBy, ReportOf, ColumnReportOf, VerdictOf}
+use Rattle.report.specs.WalkLaws.{Few}
+use Rattle.report.specs.Promises.{ReportBy, ReportOf, ColumnReportOf, MetadataReportOf, VerdictOf}
 use Rattle.report.specs.declared.Summary.{Summary}
 use Rattle.report.specs.declared.Tally.{Tally}
 
@@ -41,24 +47,24 @@ unfolding writtenOf
 none-written b = omega arith
 
 -- what is turned away
-pub report-refused : (b w : List ℕ) (o : Outcome) (fs : List Finding) (n t r : ℕ) → o ≡ Refused n t r
-    → ReportBy o (findingsBy o fs) b w (record { number = n; table = t; row = r; total = 0; written = 0 }) b w
-report-refused b w o fs n t r q =
-    record { number = rw q; table = rw q; row = rw q; total = rw q; written = rw q (none-written b); buffer = rw q (sym (buffer-none b)); kept = λ _. refl }
+pub report-refused : (b w : List ℕ) (o : Outcome) (fs : List Finding) (n t i : ℕ) (r : Summary) → o ≡ Refused n t i
+    → r .number ≡ n → r .table ≡ t → r .row ≡ i → r .total ≡ 0 → r .written ≡ 0 → ReportBy o (findingsBy o fs) b w r b w
+report-refused b w o fs n t i r q a c d e f =
+    record { number = rw q a; table = rw q c; row = rw q d; total = rw q e; written = rw q (f ∙ none-written b); buffer = rw q (sym (buffer-none b)); kept = λ _. refl }
 
 -- what is judged
-pub report-done : (b w : List ℕ) (o : Outcome) (l : Layout) (fs : List Finding) (b′ w′ : List ℕ) (t : Tally) (n : ℕ) → o ≡ Accepted l
-    → Added fs b noTally b′ t → length b′ ≡ length b → n ≡ min (t .total) (length b′ / 4 / 3)
-    → ReportBy o (findingsBy o fs) b w (record { number = 0; table = 0; row = 0; total = t .total; written = n }) b′ w′
+pub report-done : (b w : List ℕ) (o : Outcome) (l : Layout) (fs : List Finding) (b′ w′ : List ℕ) (t : Tally) (r : Summary) → o ≡ Accepted l
+    → Added fs b noTally b′ t → length b′ ≡ length b → r .number ≡ 0 → r .table ≡ 0 → r .row ≡ 0 → r .total ≡ t .total → r .written ≡ min (t .total) (length b′ / 4 / 3)
+    → ReportBy o (findingsBy o fs) b w r b′ w′
 unfolding writtenOf
-report-done b w o l fs b′ w′ t n q a k h =
+report-done b w o l fs b′ w′ t r q a k d e f g h =
     let c : t .total ≡ length fs = a .count ∙ zero-add (length fs) in
-    let v : n ≡ min (length fs) (room b) = rw (h, c, k) in
+    let v : r .written ≡ min (length fs) (room b) = h ∙ rw (c, k) in
     record {
-      number = rw q;
-      table = rw q;
-      row = rw q;
-      total = rw q c;
+      number = rw q d;
+      table = rw q e;
+      row = rw q f;
+      total = rw q (g ∙ c);
       written = rw q v;
       buffer = rw q (a .buffer ∙ put-all fs b);
       kept = λ z. absurd (true≢false (sym (ap isAccepted q) ∙ z));
@@ -78,6 +84,14 @@ module _ (s b w : List ℕ) (o : Outcome) (p : Pack) (r : Summary) (b′ w′ : 
   report-columns cs ts d e q h =
       subst (λ (x : Outcome). ReportBy x (findingsBy x (findings (columnPack s cs))) b w r b′ w′) e
       (subst (λ (x : Pack). ReportBy o (findingsBy o (findings x)) b w r b′ w′) (d ∙ ap (packIn form.Columns) q) h)
+
+-- and of the metadata of its sibling
+pub report-notes : (s m b w : List ℕ) (o : Outcome) (ts : List (List ℕ)) (r : Summary) (b′ w′ : List ℕ) → o ≡ metadataOutcome s m → ts ≡ tablesFor s m
+    → ReportBy o (findingsBy o (findingsOf (metadataScheme (notebookIn ts)))) b w r b′ w′ → MetadataReportOf s m b w r b′ w′
+unfolding metadataReported notebookOf
+report-notes s m b w o ts r b′ w′ e q h =
+    subst (λ (x : Outcome). ReportBy x (findingsBy x (findingsOf (metadataScheme (notebookOf s m)))) b w r b′ w′) e
+    (subst (λ (us : List (List ℕ)). ReportBy o (findingsBy o (findingsOf (metadataScheme (notebookIn us)))) b w r b′ w′) q h)
 
 -- two answers that keep the promise are the same, and so are the buffers
 pub report-one : (o : Outcome) (fs : List Finding) (b w : List ℕ) (r₁ r₂ : Summary) (b₁ b₂ w₁ w₂ : List ℕ) → ReportBy o fs b w r₁ b₁ w₁ → ReportBy o fs b w r₂ b₂ w₂ → (r₁ ≡ r₂) × (b₁ ≡ b₂)
@@ -128,6 +142,14 @@ module _ (s : List ℕ) (ts : List (List ℕ)) (e : packIn form.Rows ts ≡ pack
 pub columns-accepted : (s : List ℕ) (cs ts : List (List ℕ)) (o : Outcome) → ts ≡ columnTables s cs → o ≡ columnOutcome s cs → isAccepted o ≡ true → Numbered (packIn form.Columns ts)
 unfolding columnPack
 columns-accepted s cs ts o e q a = subst (λ (us : List (List ℕ)). Numbered (packIn form.Columns us)) (sym e) (columns-numbered s cs (ap isAccepted (sym q) ∙ a))
+
+-- and with its sibling
+pub notes-accepted : (s m : List ℕ) (ts : List (List ℕ)) (o : Outcome) → ts ≡ tablesFor s m → o ≡ metadataOutcome s m → isAccepted o ≡ true → Few (metadataScheme (notebookIn ts))
+unfolding notebookOf
+notes-accepted s m ts o e q a = subst (λ (us : List (List ℕ)). Few (metadataScheme (notebookIn us))) (sym e) (λ t. omega (arith, rows-most s m (ap isAccepted (sym q) ∙ a) t))
+
+pub accepted-few : (o : Outcome) (l : Layout) (r : Scheme) → (isAccepted o ≡ true → Few r) → o ≡ Accepted l → Few r
+accepted-few o l r h e = h (ap isAccepted e)
 
 pub accepted-by : (s : List ℕ) (o : Outcome) (l : Layout) → o ≡ outcome s → o ≡ Accepted l → isAccepted (outcome s) ≡ true
 accepted-by s o l e f = ap isAccepted (sym e ∙ f)

@@ -7,9 +7,11 @@ use lib.ListN.{length}
 use Rattle.listing.specs.Refusals.{outcome, numberOf, tableOf, rowOf, isAccepted}
 use Rattle.listing.specs.declared.Outcome.{Outcome}
 use Rattle.columns.specs.Refusals.{columnOutcome}
+use Rattle.metadata.specs.Refusals.{metadataOutcome}
 use Rattle.findings.specs.Findings.{Finding}
 use Rattle.findings.specs.Answers.{reported, verdictOf, isRefused}
 use Rattle.findings.specs.ColumnAnswers.{columnReported}
+use Rattle.findings.specs.MetadataAnswers.{metadataReported}
 use Rattle.findings.specs.Words.{writtenOf, bufferOf}
 use Rattle.findings.specs.declared.Ruling.{Ruling}
 use Rattle.report.specs.declared.Summary.{Summary}
@@ -24,13 +26,16 @@ pub record ReportBy (o : Outcome) (fs : List Finding) (b w : List ℕ) (r : Summ
   pub buffer : b′ ≡ bufferOf fs b
   pub kept : isAccepted o ≡ false → w′ ≡ w
 
--- of the listing s, and of one with its tiles in the columns cs.
--- A refused report has total 0, written 0 and leaves the buffer as it was: `reported` and `columnReported` of it are empty
+-- of the listing s, of one with its tiles in the columns cs, and of the metadata of its sibling m.
+-- A refused report has total 0, written 0 and leaves the buffer as it was: `reported`, `columnReported` and `metadataReported` of it are empty
 abbrev pub ReportOf : List ℕ → List ℕ → List ℕ → Summary → List ℕ → List ℕ → Type 0
 ReportOf s b w r b′ w′ = ReportBy (outcome s) (reported s) b w r b′ w′
 
 abbrev pub ColumnReportOf : List ℕ → List (List ℕ) → List ℕ → List ℕ → Summary → List ℕ → List ℕ → Type 0
 ColumnReportOf s cs b w r b′ w′ = ReportBy (columnOutcome s cs) (columnReported s cs) b w r b′ w′
+
+abbrev pub MetadataReportOf : List ℕ → List ℕ → List ℕ → List ℕ → Summary → List ℕ → List ℕ → Type 0
+MetadataReportOf s m b w r b′ w′ = ReportBy (metadataOutcome s m) (metadataReported s m) b w r b′ w′
 
 -- a refused verdict leaves the workspace as it was
 pub record VerdictOf (s : List ℕ) (code : ℕ) (w : List ℕ) (r : Ruling) (w′ : List ℕ) : Type 0 where

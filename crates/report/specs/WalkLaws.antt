@@ -12,12 +12,13 @@ use Rattle.octets.specs.GatherLaws.{gather-one, gather-agree}
 use Rattle.octets.specs.Search.{first}
 use Rattle.pack.specs.Rows.{Rows, Tile, Pack, rowsIn}
 use Rattle.index.specs.TileKeys.{addressAt, isAt}
-use Rattle.rules.specs.Judgments.{partner}
+use Rattle.rules.specs.Judgments.{none, partner}
 use Rattle.rules.specs.Tiles.{of541}
 use Rattle.rules.specs.Codes.{judged}
 use Rattle.rules.specs.declared.Judgment.{Judgment}
 use Rattle.rules.specs.declared.Judgment.the-variants.{Clean, Hit}
 use Rattle.findings.specs.Findings.{Finding, found, atRow}
+use Rattle.findings.specs.Schemes.{Scheme, atRowBy}
 use Rattle.survey.specs.declared.Survey.{Survey}
 use Rattle.survey.specs.Surveys.{Surveyed, quietBy}
 use Rattle.survey.specs.SurveyLaws.{quiet-row}
@@ -68,6 +69,17 @@ pub more-row : (p : Pack) (code : ℕ) (b : List ℕ) (t : Tally) (n i : ℕ) (b
     → Walking (atRow p code) b t n (i + 1) b₂ t₂
 unfolding atRow
 more-row p code b t n i b₁ b₂ t₁ t₂ v w l a d e = walk-more (atRow p code) b t n code i b₁ b₂ t₁ t₂ v w l a d (ap (found code i) e)
+
+-- the same of any scheme
+pub more-row-by : (r : Scheme) (code : ℕ) (b : List ℕ) (t : Tally) (n i : ℕ) (b₁ b₂ : List ℕ) (t₁ t₂ : Tally) (v : Judgment)
+    → Walking (atRowBy r code) b t n i b₁ t₁ → i < n → Added (found code i v) b₁ t₁ b₂ t₂ → length b₂ ≡ length b₁ → v ≡ r .says code i
+    → Walking (atRowBy r code) b t n (i + 1) b₂ t₂
+unfolding atRowBy
+more-row-by r code b t n i b₁ b₂ t₁ t₂ v w l a d e = walk-more (atRowBy r code) b t n code i b₁ b₂ t₁ t₂ v w l a d (ap (found code i) e)
+
+-- no row of a scheme has the number that means none
+abbrev pub Few : Scheme → Type 0
+Few r = (t : ℕ) → r .rows t ≤ none
 
 -- by what the index found
 pub more-541 : (b : List ℕ) (t : Tally) (n i : ℕ) (b₁ b₂ : List ℕ) (t₁ t₂ : Tally) (v : Judgment) (k : ℕ) (ts : Rows Tile)

@@ -2,6 +2,7 @@
 mod answers;
 mod buffer;
 mod full;
+mod notes;
 mod rulings;
 mod search;
 mod tiles;
@@ -12,6 +13,7 @@ pub use answers::put_refusal;
 pub use answers::put_ruling;
 pub use full::report;
 pub use full::report_columns;
+pub use notes::report_metadata;
 pub use rulings::verdict;
 pub use search::lookup;
 pub use search::lookup_columns;

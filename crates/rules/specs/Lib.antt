@@ -1,4 +1,5 @@
 pub mod Judgments
+pub mod JudgmentLaws
 pub mod References
 pub mod Contents
 pub mod Sets

@@ -1,5 +1,5 @@
 -- `judge::matrices::has_tile` meets its contract.
-use Rattle.judge.proofs.Laws.{is-found}
+use Rattle.rules.specs.JudgmentLaws.{is-found}
 use borrow.Author.Needs.{needs}
 use Rattle.judge.proofs.matrices.has_tile.Statement.{statement}
 use Rattle.judge.proofs.matrices.has_tile.Tie as tie

@@ -19,7 +19,7 @@ check-rows-spec =
     (λ c κs. search needs)
     (λ c κs. search needs)
     (λ c κs. search needs)
-    (λ c. search (found-fits, flags-fit, needs))
+    (λ c. search (flags-fit, needs))
     (λ c κs. search needs)
     (λ c. search (check-stop 1, bodies))
     (λ c κs. search (found-fits, flags-fit, needs))

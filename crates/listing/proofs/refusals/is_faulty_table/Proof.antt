@@ -8,6 +8,6 @@ pub is-faulty-table-spec : {M : Type 1} → statement M
 is-faulty-table-spec =
     tie.close
     (tie.spec (λ c κs. search needs)
-    (λ c κs. search (below-eight, below-last, faulty-table-of, needs))
+    (λ c κs. search (below-eight, below-last, needs))
     (λ c κs. search needs)
-    (λ c. search (below-eight, below-last, faulty-table-of, needs)))
+    (λ c. search (faulty-table-of, needs)))

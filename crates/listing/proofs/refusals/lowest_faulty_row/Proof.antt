@@ -9,7 +9,7 @@ pub lowest-faulty-row-spec : {M : Type 1} → statement M
 unfolding lowestFaultyRow
 lowest-faulty-row-spec =
     tie.close
-    (tie.spec (λ c κs. search (below-eight, below-last, marks-cut, needs))
+    (tie.spec (λ c κs. search (below-eight, below-last, needs))
     (λ c κs. search needs)
-    (λ c κs. search (below-eight, below-last, marks-cut, needs))
+    (λ c κs. search (marks-cut, needs))
     (λ c. cc))

@@ -9,11 +9,11 @@ pub place-of-spec : {M : Type 1} → statement M
 place-of-spec =
     tie.close
     (tie.spec (λ c κs. search needs)
-    (λ c κs. search (marks-none, marks-lent, found-at, found-none-at, needs))
-    (λ c κs. search (marks-none, marks-lent, found-at, found-none-at, needs))
+    (λ c κs. search (marks-none, needs))
+    (λ c κs. search (marks-lent, needs))
     (λ c κs. search needs)
     (λ c κs. search (marks-none, marks-lent, found-at, found-none-at, needs))
     (λ c κs. search needs)
-    (λ c. search (marks-none, marks-lent, found-at, found-none-at, needs))
+    (λ c. search (found-at, found-none-at, needs))
     (λ c κs. search needs)
     (λ c. search needs))

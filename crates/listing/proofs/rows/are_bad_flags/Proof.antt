@@ -12,4 +12,4 @@ are-bad-flags-spec =
     (λ c κs. search needs)
     (λ c. search (flags-high, flags-spare, flags-id, flags-parent, needs))
     (λ c κs. search needs)
-    (λ c. search (flags-high, flags-spare, flags-id, flags-parent, needs)))
+    (λ c. search (flags-parent, needs)))

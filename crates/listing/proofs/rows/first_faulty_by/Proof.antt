@@ -19,15 +19,15 @@ first-faulty-by-spec =
     tie.close
     (tie.spec Inv-loop
     μ-loop
-    (λ c κs. search (roomy-same, room-step, room-place, room-texts, needs))
-    (λ c κs. search (roomy-same, room-step, room-place, room-texts, needs))
+    (λ c κs. search needs)
+    (λ c κs. search (roomy-same, needs))
     (λ c. search (passed-on, cursors))
-    (λ c. search (roomy-same, room-step, room-place, room-texts, needs))
-    (λ c. search (roomy-same, room-step, room-place, room-texts, needs))
-    (λ c κs. search (roomy-same, room-step, room-place, room-texts, needs))
+    (λ c. search (room-step, needs))
+    (λ c. search (room-place, needs))
+    (λ c κs. search (room-texts, needs))
     (λ c. search (faulty-row, seeks))
     (λ c κs. search (roomy-same, room-step, room-place, room-texts, needs))
-    (λ c κs. search (roomy-same, room-step, room-place, room-texts, needs))
+    (λ c κs. search (roomy-same, room-texts, needs))
     (λ c. search (roomy-same, room-step, room-place, room-texts, needs))
     (λ c. search (faulty-row, passed-on, cursors))
     (λ c. search seeks))

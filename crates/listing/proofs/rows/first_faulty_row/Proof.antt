@@ -8,16 +8,16 @@ use Rattle.listing.proofs.rows.first_faulty_row.Tie as tie
 pub first-faulty-row-spec : {M : Type 1} → statement M
 first-faulty-row-spec =
     tie.close
-    (tie.spec (λ c κs. search (below-eight, below-seven, below-last, roomy, needs))
+    (tie.spec (λ c κs. search (below-eight, below-seven, below-last, needs))
     (λ c. search needs)
-    (λ c κs. search (below-eight, below-seven, below-last, roomy, needs))
+    (λ c κs. search (below-seven, needs))
     (λ c. search needs)
-    (λ c κs. search (below-eight, below-seven, below-last, roomy, needs))
+    (λ c κs. search (below-seven, needs))
     (λ c. search needs)
-    (λ c κs. search (below-eight, below-seven, below-last, roomy, needs))
+    (λ c κs. search (below-seven, needs))
     (λ c. search needs)
-    (λ c κs. search (below-eight, below-seven, below-last, roomy, needs))
+    (λ c κs. search (below-seven, needs))
     (λ c. search needs)
     (λ c κs. search needs)
-    (λ c κs. search (below-eight, below-seven, below-last, roomy, needs))
+    (λ c κs. search (roomy, needs))
     (λ c. search (row-fault, needs)))

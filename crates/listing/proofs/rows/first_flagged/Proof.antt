@@ -5,7 +5,6 @@ use Rattle.octets.specs.SearchLaws.{Seeking, seeks, cursors}
 use Rattle.listing.specs.Listing.{rowsAs}
 use Rattle.listing.specs.Refusals.{flagged}
 use Rattle.listing.proofs.Laws.{second-some, flags-inside}
-use borrow.Author.Needs.{needs}
 use Rattle.listing.proofs.rows.first_flagged.Statement.{statement}
 use Rattle.listing.proofs.rows.first_flagged.Tie as tie
 
@@ -20,10 +19,10 @@ first-flagged-spec =
     tie.close
     (tie.spec Inv-loop
     μ-loop
-    (λ c κs. search (second-some, flags-inside, cursors))
-    (λ c κs. search (second-some, flags-inside, cursors))
-    (λ c. search (second-some, flags-inside, cursors))
-    (λ c κs. search (second-some, flags-inside, cursors))
+    (λ c κs. search (second-some, cursors))
+    (λ c κs. search cursors)
+    (λ c. search cursors)
+    (λ c κs. search (flags-inside, cursors))
     (λ c. search seeks)
     (λ c κs. search (second-some, flags-inside, cursors))
     (λ c. search (second-some, flags-inside, cursors))

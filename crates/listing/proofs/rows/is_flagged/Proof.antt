@@ -8,8 +8,8 @@ pub is-flagged-spec : {M : Type 1} → statement M
 is-flagged-spec =
     tie.close
     (tie.spec (λ c. search needs)
-    (λ c κs. search (contents-end, link-end, needs))
+    (λ c κs. search (contents-end, needs))
     (λ c. search needs)
-    (λ c κs. search (contents-end, link-end, needs))
+    (λ c κs. search (link-end, needs))
     (λ c. cc)
     (λ c. cc))

@@ -1,0 +1,9 @@
+pub mod Rows
+pub mod Tables
+pub mod Rules
+pub mod Codes
+pub mod Prepared
+pub mod Refusals
+pub mod RefusalLaws
+pub mod MetadataLaws
+pub mod Worked
