@@ -4,7 +4,10 @@
  * misses; a fill of columns and the same by a plain loop; and in the end, from rows and from columns, a lookup that
  * misses by its zoom alone: column and row are the last tile's. With "reader" the first of these and nothing else, for
  * listings of more text than a report can go over. The buffers are not cleared between runs, and the columns are filled
- * before; nothing else is measured. */
+ * before; nothing else is measured.
+ *
+ * On a tile listing with a metadata listing, each after its length as 32 bits: bench LENT RUNS metadata. Read, as above,
+ * a report on the metadata, and its total. */
 #define _POSIX_C_SOURCE 199309L
 #include <stdio.h>
 #include <stdlib.h>
@@ -16,11 +19,12 @@
 enum { WORK = 2097152, FINDINGS = 12 * 1048576, LISTING = 16777216, TABLES = 7, COLUMNS = 4 };
 enum call {
     READ, REPORT, VERDICT, LOOKUP, WRITE, COPY, /* the total stands here in the line */
-    READ_COLUMNS, REPORT_COLUMNS, LOOKUP_COLUMNS, FILL, LOOP, PLACED, PLACED_COLUMNS, CALLS
+    READ_COLUMNS, REPORT_COLUMNS, LOOKUP_COLUMNS, FILL, LOOP, PLACED, PLACED_COLUMNS, CALLS,
+    REPORT_METADATA = CALLS
 };
 
-static uint8_t *listing, *findings, *work, *written, answer[20];
-static size_t size;
+static uint8_t *listing, *metadata, *findings, *work, *written, answer[20];
+static size_t size, metadata_size;
 
 /* Columns as the library fills them, and as the loop does. */
 static int64_t column[COLUMNS][DESTERLIN_TILES_MOST], looped[COLUMNS][DESTERLIN_TILES_MOST];
@@ -46,7 +50,7 @@ static uint8_t *octets(size_t count) {
     return lent;
 }
 
-static void read_listing(const char *name) {
+static void read_file(const char *name) {
     FILE *file = fopen(name, "rb");
     if (file == NULL) {
         perror(name);
@@ -55,6 +59,16 @@ static void read_listing(const char *name) {
     listing = octets(LISTING);
     size = fread(listing, 1, LISTING, file);
     fclose(file);
+}
+
+static void find_metadata(void) {
+    listing += 4;
+    size = desterlin_word(listing - 4, 0);
+    metadata = listing + size + 4;
+    metadata_size = desterlin_word(metadata - 4, 0);
+}
+
+static void find_parts(void) {
     size_t end = size;
     for (int i = TABLES - 1; i >= 0; i--) {
         size_t start = desterlin_word(listing, 3 + 2 * i);
@@ -123,6 +137,9 @@ static void make(enum call call) {
     case LOOP:
         loop();
         break;
+    case REPORT_METADATA:
+        desterlin_report_metadata(listing, size, metadata, metadata_size, findings, FINDINGS, work, WORK, answer, 20);
+        break;
     case PLACED:
         desterlin_lookup(listing, size, 0, -1, last_number(16), last_number(24), answer, 16);
         break;
@@ -173,19 +190,32 @@ static int fails(const char *words) {
     return 1;
 }
 
+static int time_metadata(int runs) {
+    unsigned findings_on_metadata = total(REPORT_METADATA);
+    if (desterlin_word(answer, DESTERLIN_REPORT_NUMBER) != DESTERLIN_ACCEPTED)
+        return fails("the metadata listing is not accepted");
+    printf("%.3f ", least_time(READ, runs));
+    printf("%.3f %u\n", least_time(REPORT_METADATA, runs), findings_on_metadata);
+    return 0;
+}
+
 int main(int words, char **word) {
     int is_reader_alone = words == 4 && strcmp(word[3], "reader") == 0;
-    if (words != 3 && !is_reader_alone) return 2;
+    int is_on_metadata = words == 4 && strcmp(word[3], "metadata") == 0;
+    if (words != 3 && !is_reader_alone && !is_on_metadata) return 2;
     findings = octets(FINDINGS);
     work = octets(WORK);
     written = octets(LISTING);
-    read_listing(word[1]);
+    read_file(word[1]);
+    if (is_on_metadata) find_metadata();
+    find_parts();
     if (!is_accepted()) return fails("the listing is not accepted");
     int runs = atoi(word[2]);
     if (is_reader_alone) {
         printf("%.3f\n", least_time(READ, runs));
         return 0;
     }
+    if (is_on_metadata) return time_metadata(runs);
     if (!is_filled_alike()) return fails("the fill and the loop differ");
     if (total(REPORT) != total(REPORT_COLUMNS)) return fails("the reports differ");
     print_times(READ, READ_COLUMNS, runs);

@@ -119,6 +119,41 @@ static unsigned long compare_columns(uint64_t size)
     return differences;
 }
 
+/* A header alone, of as many pairs of count and offset as there are tables. */
+static void put_header_alone(uint8_t *octets, size_t tables)
+{
+    uint32_t size = (uint32_t)(8 + 8 * tables);
+    desterlin_put_word(octets, 0, 1);
+    desterlin_put_word(octets, 1, size);
+    for (size_t i = 1; i <= tables; i++)
+        desterlin_put_word(octets, 2 * i + 1, size);
+}
+
+enum { TABLES = PARTS, METADATA_TABLES = 3, METADATA_ALONE = 8 + 8 * METADATA_TABLES };
+
+/* A header alone, lent with so many octets that their number, were it cut to 32 bits, would be the header's: too long. */
+static unsigned long compare_metadata(void)
+{
+    uint64_t size = (UINT64_C(1) << 32) + METADATA_ALONE;
+    uint8_t listing[8 + 8 * TABLES] = { 0 }, answer[DESTERLIN_REPORT_ANSWER];
+    uint8_t *metadata = mapped(size);
+    if (metadata == NULL)
+        return 0;
+    put_header_alone(listing, TABLES);
+    put_header_alone(metadata, METADATA_TABLES);
+    int differs = 0;
+    for (int is_longer = 0; is_longer < 2; is_longer++) {
+        desterlin_report_metadata(listing, sizeof listing, metadata, is_longer ? (size_t)size : METADATA_ALONE, NULL, 0,
+                                  NULL, 0, answer, sizeof answer);
+        uint32_t must = is_longer ? DESTERLIN_REFUSED_LONG : DESTERLIN_ACCEPTED;
+        differs |= desterlin_word(answer, DESTERLIN_REPORT_NUMBER) != must;
+    }
+    munmap(metadata, (size_t)size);
+    if (differs)
+        printf("difference: a metadata listing is not accepted, or with %" PRIu64 " octets not refused\n", size);
+    return (unsigned long)differs;
+}
+
 unsigned long compare_beyond_a_word(void)
 {
     unsigned long differences = 0;
@@ -126,5 +161,5 @@ unsigned long compare_beyond_a_word(void)
         differences += compare_part(&cases[i]);
     for (size_t i = 0; i < sizeof columns / sizeof columns[0]; i++)
         differences += compare_columns(columns[i]);
-    return differences;
+    return differences + compare_metadata();
 }

@@ -1,4 +1,4 @@
-/* Parts and columns so long that their octets are no number of 32 bits, which no stream of cases can hold. */
+/* Parts, columns and metadata so long that their octets are no number of 32 bits, which no stream of cases can hold. */
 #ifndef BEYOND_H
 #define BEYOND_H
 

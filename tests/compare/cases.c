@@ -50,7 +50,7 @@ static int64_t read_i64(void)
 
 void read_mark(void)
 {
-    static const char mark[] = "cases 3\n";
+    static const char mark[] = "cases 4\n";
     struct octets read = { 0 };
     read_octets(&read, sizeof mark - 1);
     if (memcmp(read.at, mark, read.size) != 0)
@@ -75,8 +75,9 @@ int read_given(struct given *given)
         check_end();
         return 0;
     }
-    if (given->strings != A_LISTING && given->strings != WITH_COLUMNS && given->strings != PARTS)
-        broken("neither a listing, nor one with columns, nor parts, nor the end");
+    if (given->strings != A_LISTING && given->strings != WITH_METADATA && given->strings != WITH_COLUMNS
+        && given->strings != PARTS)
+        broken("neither a listing, nor one with metadata or columns, nor parts, nor the end");
     read_octets(&given->origin, read_u32());
     for (uint32_t i = 0; i < given->strings; i++)
         read_octets(&given->string[i], read_u32());
@@ -90,6 +91,8 @@ static int may_be_asked(const struct given *given, uint32_t asked)
     switch (given->strings) {
     case PARTS:
         return asked == WRITE;
+    case WITH_METADATA:
+        return asked == REPORT_METADATA;
     case WITH_COLUMNS:
         return asked == FILL || asked == REPORT_COLUMNS || asked == LOOKUP_COLUMNS;
     default:

@@ -9,7 +9,17 @@
 #include <stddef.h>
 #include <stdint.h>
 
-enum asked { REPORT = 1, VERDICT = 2, LOOKUP = 3, WRITE = 4, FILL = 5, REPORT_COLUMNS = 6, LOOKUP_COLUMNS = 7, ASKED };
+enum asked {
+    REPORT = 1,
+    VERDICT = 2,
+    LOOKUP = 3,
+    WRITE = 4,
+    FILL = 5,
+    REPORT_COLUMNS = 6,
+    LOOKUP_COLUMNS = 7,
+    REPORT_METADATA = 8,
+    ASKED
+};
 
 /* Octets that grow with what is read into them. */
 struct octets {
@@ -17,12 +27,12 @@ struct octets {
     size_t size, room;
 };
 
-/* What calls are given: a listing, a listing and its four columns, or the seven parts of one. */
-enum { A_LISTING = 1, WITH_COLUMNS = 5, PARTS = 7 };
+/* What calls are given: a listing, alone, with a metadata listing or with its four columns, or the seven parts of one. */
+enum { A_LISTING = 1, WITH_METADATA = 2, WITH_COLUMNS = 5, PARTS = 7 };
 
 struct given {
     struct octets origin; /* the commands that make it, without the first "second", not ended by a 0 */
-    uint32_t strings;     /* A_LISTING, WITH_COLUMNS or PARTS */
+    uint32_t strings;     /* A_LISTING, WITH_METADATA, WITH_COLUMNS or PARTS */
     struct octets string[PARTS];
     uint32_t calls; /* how many follow */
 };

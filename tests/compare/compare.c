@@ -20,8 +20,16 @@
 
 enum { MOST_PRINTED = 20 };
 
-/* What is given comes first: the listing, and with it the columns, or the parts in their order. */
-enum buffer { GIVEN, COLUMNS = GIVEN + A_LISTING, OUTPUT = GIVEN + PARTS, WORK, ANSWER, BUFFERS };
+/* What is given comes first: the listing, and with it the metadata or the columns, or the parts in their order. */
+enum buffer {
+    GIVEN,
+    METADATA = GIVEN + A_LISTING,
+    COLUMNS = GIVEN + A_LISTING,
+    OUTPUT = GIVEN + PARTS,
+    WORK,
+    ANSWER,
+    BUFFERS
+};
 
 /* The case that is being tried. The handler of a fault tells of it too, so it is the one thing that all can see. */
 static struct {
@@ -32,7 +40,7 @@ static struct {
 } tried;
 
 static struct {
-    unsigned long listings, with_columns, parts, calls[ASKED], written, short_answers, differences;
+    unsigned long listings, with_metadata, with_columns, parts, calls[ASKED], written, short_answers, differences;
 } counts;
 
 static int has_buffer(enum buffer buffer)
@@ -40,9 +48,9 @@ static int has_buffer(enum buffer buffer)
     enum asked asked = tried.call.asked;
     switch (buffer) {
     case OUTPUT:
-        return asked == REPORT || asked == WRITE || asked == REPORT_COLUMNS;
+        return asked == REPORT || asked == WRITE || asked == REPORT_COLUMNS || asked == REPORT_METADATA;
     case WORK:
-        return asked == REPORT || asked == VERDICT || asked == REPORT_COLUMNS;
+        return asked == REPORT || asked == VERDICT || asked == REPORT_COLUMNS || asked == REPORT_METADATA;
     case ANSWER:
         return 1;
     default:
@@ -56,11 +64,18 @@ static int is_to_be_filled(enum buffer buffer)
     return tried.call.asked == FILL && buffer >= COLUMNS && buffer < OUTPUT;
 }
 
-static const char *name_of(enum buffer buffer)
+static const char *name_of_given(enum buffer buffer)
 {
     static const char *const parts[PARTS] = { "references", "contents",   "sets", "matrices",
                                               "tiles",      "extensions", "names" };
     static const char *const listing_and_columns[WITH_COLUMNS] = { "listing", "firsts", "zooms", "columns", "rows" };
+    if (tried.given.strings == WITH_METADATA && buffer == METADATA)
+        return "metadata";
+    return (tried.given.strings == PARTS ? parts : listing_and_columns)[buffer - GIVEN];
+}
+
+static const char *name_of(enum buffer buffer)
+{
     switch (buffer) {
     case OUTPUT:
         return tried.call.asked == WRITE ? "listing" : "findings";
@@ -69,15 +84,16 @@ static const char *name_of(enum buffer buffer)
     case ANSWER:
         return "answer";
     default:
-        return (tried.given.strings == PARTS ? parts : listing_and_columns)[buffer - GIVEN];
+        return name_of_given(buffer);
     }
 }
 
 /* The case as commands that repeat it, and then what the commands cannot tell. */
 static void print_case(void)
 {
-    static const char *const commands[ASKED] = { "",      "judge", "verdict",       "lookup",
-                                                 "write", "fill",  "judge-columns", "lookup-columns" };
+    static const char *const commands[ASKED] = {
+        "", "judge", "verdict", "lookup", "write", "fill", "judge-columns", "lookup-columns", "judge-metadata"
+    };
     const struct call *call = &tried.call;
     printf("second %.*s | second %s", (int)tried.given.origin.size, (const char *)tried.given.origin.at,
            commands[call->asked]);
@@ -112,11 +128,12 @@ static void differs(const char *format, ...)
 static void print_counts(void)
 {
     printf("compared %lu listings in %lu reports, %lu verdicts and %lu lookups, the parts of %lu in %lu writes, of which "
-           "%lu wrote a listing that is accepted, and the columns of %lu in %lu fills, %lu reports and %lu lookups; %lu "
-           "calls with an answer too short: %lu differences\n",
+           "%lu wrote a listing that is accepted, the columns of %lu in %lu fills, %lu reports and %lu lookups, and the "
+           "metadata of %lu in %lu reports; %lu calls with an answer too short: %lu differences\n",
            counts.listings, counts.calls[REPORT], counts.calls[VERDICT], counts.calls[LOOKUP], counts.parts,
            counts.calls[WRITE], counts.written, counts.with_columns, counts.calls[FILL], counts.calls[REPORT_COLUMNS],
-           counts.calls[LOOKUP_COLUMNS], counts.short_answers, counts.differences);
+           counts.calls[LOOKUP_COLUMNS], counts.with_metadata, counts.calls[REPORT_METADATA], counts.short_answers,
+           counts.differences);
 }
 
 /*
@@ -251,6 +268,14 @@ static uint32_t returned_by_lookup_columns(void)
                                     call->number, call->zoom, call->column, call->row, answer->octets, answer->size);
 }
 
+static uint32_t returned_by_report_metadata(void)
+{
+    const struct lent *listing = &tried.lent[GIVEN], *metadata = &tried.lent[METADATA];
+    const struct lent *findings = &tried.lent[OUTPUT], *work = &tried.lent[WORK], *answer = &tried.lent[ANSWER];
+    return desterlin_report_metadata(listing->octets, listing->size, metadata->octets, metadata->size, findings->octets,
+                                     findings->size, work->octets, work->size, answer->octets, answer->size);
+}
+
 static uint32_t returned_by_call(void)
 {
     const struct call *call = &tried.call;
@@ -272,6 +297,8 @@ static uint32_t returned_by_call(void)
         return returned_by_report_columns();
     case LOOKUP_COLUMNS:
         return returned_by_lookup_columns();
+    case REPORT_METADATA:
+        return returned_by_report_metadata();
     default:
         return returned_by_write();
     }
@@ -329,6 +356,9 @@ static void count_given(void)
     switch (tried.given.strings) {
     case PARTS:
         counts.parts++;
+        break;
+    case WITH_METADATA:
+        counts.with_metadata++;
         break;
     case WITH_COLUMNS:
         counts.with_columns++;

@@ -3,9 +3,9 @@
 use std::io::{self, Read, Write};
 use std::process::ExitCode;
 
-use second::calls::{fill, lookup, lookup_columns, report, report_columns, verdict, write};
-use second::calls::{Columns, Parts, Question, Verdict};
-use second::generate::ColumnsCase;
+use second::calls::{fill, lookup, lookup_columns, report, report_columns, report_metadata};
+use second::calls::{verdict, write, Columns, Parts, Question, Verdict};
+use second::generate::{ColumnsCase, MetadataCase};
 use second::listing::Refusal;
 use second::{cases, coverage, desk, generate, samples, vectors};
 
@@ -26,10 +26,16 @@ usage: second judge < LISTING
        second fill < LENT
        second judge-columns < LENT
        second lookup-columns CONTENTS ZOOM COLUMN ROW < LENT
+       second metadata SEED < LISTING > LENT
+       second limit-metadata NUMBER > LENT
+       second full-metadata KIND TILES > LENT
+       second text-metadata NUMBER > LENT
+       second judge-metadata < LENT
        second cases FIRST COUNT > CASES
        second cases-limits TILES > CASES
        second cases-texts FIRST COUNT > CASES
        second time KIND TILES
+       second time-metadata KIND TILES
        second coverage FIRST COUNT
        second samples DIR
        second vectors [SAMPLES-DIR]";
@@ -109,6 +115,24 @@ fn run(words: &[&str]) -> Result<Outcome, String> {
         ["samples", folder] => well(samples::write(folder.as_ref()).map_err(told)?),
         ["vectors"] => checked(vectors::run(vectors::samples_folder())),
         ["vectors", folder] => checked(vectors::run(folder.into())),
+        _ => run_on_metadata(words),
+    }
+}
+
+fn run_on_metadata(words: &[&str]) -> Result<Outcome, String> {
+    match words {
+        ["metadata", seed] => well(both(generate::generate_metadata(number(seed)?, input()?))),
+        ["limit-metadata", limit] => well(both(metadata_at_a_limit(number(limit)?)?)),
+        ["full-metadata", kind, tiles] => well(both(full_metadata(kind, number(tiles)?)?)),
+        ["text-metadata", text] => well(both(generate::text_metadata(number(text)?))),
+        ["judge-metadata"] => {
+            let [listing, metadata] = strings_in(&input()?)?;
+            well(desk::printed_in_full(report_metadata(&listing, &metadata)))
+        }
+        ["time-metadata", kind, tiles] => {
+            let case = full_metadata(kind, number(tiles)?)?;
+            well(coverage::metadata_timing(&case))
+        }
         _ => Err(USAGE.to_string()),
     }
 }
@@ -133,10 +157,24 @@ fn full(kind: &str, tiles: usize) -> Result<Vec<u8>, String> {
     generate::full(kind, tiles).ok_or_else(|| format!("kinds: {}", kinds.join(" ")))
 }
 
+fn full_metadata(kind: &str, tiles: usize) -> Result<MetadataCase, String> {
+    let kinds = || format!("kinds: {}", generate::FULL_METADATA_KINDS.join(" "));
+    generate::full_metadata(kind, tiles).ok_or_else(kinds)
+}
+
 fn limit_listing(limit: usize) -> Result<Vec<u8>, String> {
     let found = generate::LIMITS.get(limit);
-    let (_, make) = found.ok_or_else(|| format!("limits: 0 to {}", generate::LIMITS.len() - 1))?;
+    let (_, make) = found.ok_or_else(|| limits(generate::LIMITS.len()))?;
     Ok(make())
+}
+
+fn metadata_at_a_limit(limit: usize) -> Result<MetadataCase, String> {
+    let found = generate::metadata_at_a_limit(limit);
+    found.ok_or_else(|| limits(generate::METADATA_LIMITS.len()))
+}
+
+fn limits(count: usize) -> String {
+    format!("limits: 0 to {}", count - 1)
 }
 
 /// Parts and the like as the commands hand them on: each after its length, a u32.
@@ -165,6 +203,11 @@ fn strings_in<const COUNT: usize>(octets: &[u8]) -> Result<[Vec<u8>; COUNT], Str
 /// What is lent to the calls on columns: the listing, and then the columns.
 fn lent(case: ColumnsCase) -> Vec<u8> {
     strings_as_octets(&[&[case.listing][..], &case.columns].concat())
+}
+
+/// What is lent to the call on metadata: the tile listing, and then the other.
+fn both(case: MetadataCase) -> Vec<u8> {
+    strings_as_octets(&[case.listing, case.metadata])
 }
 
 /// What is said of the listing and the columns in the input.

@@ -1,7 +1,13 @@
 //! A maker of listings: rows in, octets out. It writes whatever it is given,
 //! good or bad, so that a maker of faults can use it too.
 
-use crate::listing::layout::{count_at, offset_at, HEADER_SIZE, NULL_START, SHAPES, TABLE_COUNT};
+mod metadata;
+
+pub use metadata::{MetadataDraft, MetadataReferenceRow, MetadataRow};
+
+use crate::listing::layout::{
+    count_at, offset_at, Format, LISTING, NULL_START, TABLE_COUNT, VERSION,
+};
 
 /// A text as a row holds it: a start and a length within the names.
 #[derive(Clone, Copy, Debug, PartialEq, Eq)]
@@ -84,23 +90,12 @@ impl Draft {
     /// A text with these octets, at the first place that has them already, or
     /// else at the end of the names.
     pub fn text(&mut self, octets: impl AsRef<[u8]>) -> Span {
-        let octets = octets.as_ref();
-        let known = match octets.len() {
-            0 => Some(0),
-            length => self.names.windows(length).position(|w| w == octets),
-        };
-        match known {
-            Some(start) => span(start, octets.len()),
-            None => self.text_apart(octets),
-        }
+        text_in(&mut self.names, octets.as_ref())
     }
 
     /// A text with these octets at a place of its own.
     pub fn text_apart(&mut self, octets: impl AsRef<[u8]>) -> Span {
-        let octets = octets.as_ref();
-        let start = self.names.len();
-        self.names.extend_from_slice(octets);
-        span(start, octets.len())
+        text_apart_in(&mut self.names, octets.as_ref())
     }
 
     pub fn reference(&mut self, srs_id: i64, organization: &str, coordsys_id: i64, wkt: &str) {
@@ -158,7 +153,24 @@ impl Draft {
     }
 }
 
-pub(crate) fn span(start: usize, length: usize) -> Span {
+fn text_in(names: &mut Vec<u8>, octets: &[u8]) -> Span {
+    let known = match octets.len() {
+        0 => Some(0),
+        length => names.windows(length).position(|w| w == octets),
+    };
+    match known {
+        Some(start) => span(start, octets.len()),
+        None => text_apart_in(names, octets),
+    }
+}
+
+fn text_apart_in(names: &mut Vec<u8>, octets: &[u8]) -> Span {
+    let start = names.len();
+    names.extend_from_slice(octets);
+    span(start, octets.len())
+}
+
+pub(crate) const fn span(start: usize, length: usize) -> Span {
     Span { start: start as u32, length: length as u32 }
 }
 
@@ -178,13 +190,12 @@ impl Draft {
 
     /// How many octets the listing has.
     pub fn size(&self) -> usize {
-        let sizes = self.counts().into_iter().zip(&SHAPES);
-        HEADER_SIZE + sizes.map(|(n, shape)| n * shape.row_size).sum::<usize>()
+        LISTING.size(&self.counts())
     }
 
     pub fn listing(&self) -> Vec<u8> {
         let mut out = Vec::with_capacity(self.size());
-        self.write_header(&mut out);
+        put_header(&mut out, &LISTING, &self.counts());
         for row in &self.references {
             put_i64s(&mut out, &[row.srs_id, row.coordsys_id]);
             put_texts(&mut out, &[row.organization, row.definition]);
@@ -208,15 +219,6 @@ impl Draft {
         out
     }
 
-    fn write_header(&self, out: &mut Vec<u8>) {
-        put_u32s(out, &[1, self.size() as u32]);
-        let mut offset = HEADER_SIZE;
-        for (count, shape) in self.counts().into_iter().zip(&SHAPES) {
-            put_u32s(out, &[count as u32, offset as u32]);
-            offset += count * shape.row_size;
-        }
-    }
-
     fn write_matrices_and_tiles(&self, out: &mut Vec<u8>) {
         for row in &self.matrices {
             put_texts(out, &[row.table_name]);
@@ -229,6 +231,25 @@ impl Draft {
             put_i64s(out, &[row.zoom, row.column, row.row]);
         }
     }
+}
+
+/// The header of a listing with so many rows in each table.
+fn put_header(out: &mut Vec<u8>, format: &Format, counts: &[usize]) {
+    put_u32s(out, &[VERSION, format.size(counts) as u32]);
+    let mut offset = format.header_size();
+    for (count, shape) in counts.iter().zip(format.shapes) {
+        put_u32s(out, &[*count as u32, offset as u32]);
+        offset += count * shape.row_size;
+    }
+}
+
+/// A listing of some parts, each of whole rows, which are not looked at.
+pub fn joined(format: &Format, parts: &[Vec<u8>]) -> Vec<u8> {
+    let mut out = Vec::new();
+    let rows = parts.iter().zip(format.shapes).map(|(part, shape)| part.len() / shape.row_size);
+    put_header(&mut out, format, &rows.collect::<Vec<_>>());
+    parts.iter().for_each(|part| out.extend_from_slice(part));
+    out
 }
 
 fn put_u32s(out: &mut Vec<u8>, words: &[u32]) {

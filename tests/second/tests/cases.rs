@@ -2,9 +2,9 @@
 //! what is expected of a call agrees with what the paper says of all calls.
 
 use second::calls::report;
-use second::cases::{calls, column_calls, filled, write_seeds, writes};
+use second::cases::{calls, column_calls, filled, metadata_calls, write_seeds, writes};
 use second::cases::{Asked, Call, Expected, Given};
-use second::generate::{generate, generate_columns, generate_parts};
+use second::generate::{generate, generate_columns, generate_metadata, generate_parts};
 use second::listing::read;
 use second::rules::CODES;
 
@@ -101,14 +101,16 @@ fn a_stream_depends_on_its_seeds_alone_and_ends_with_its_counts() {
     };
     let stream = written();
     assert!(stream == written());
-    assert!(stream.starts_with(b"cases 3\n"));
+    assert!(stream.starts_with(b"cases 4\n"));
     let made = (7..79).map(|seed| {
         let (listing, parts) = (generate(seed).listing, generate_parts(seed).parts);
         let by_rows = calls(seed, &listing).len() + writes(seed, &parts).len();
+        let metadata = generate_metadata(seed, listing.clone());
         let columns = generate_columns(seed, listing);
-        by_rows + column_calls(seed, Given::of(&columns)).len()
+        let by_columns = column_calls(seed, Given::of(&columns)).len();
+        by_rows + by_columns + metadata_calls(seed, Given::both(&metadata)).len()
     });
-    let counts = [0, 3 * 72, made.sum::<usize>() as u32];
+    let counts = [0, 4 * 72, made.sum::<usize>() as u32];
     let end: Vec<u8> = counts.iter().flat_map(|count| count.to_le_bytes()).collect();
     assert!(stream.ends_with(&end));
 }

@@ -3,7 +3,7 @@
 
 use std::collections::HashSet;
 
-use second::calls::{lookup, put_together, report, verdict, Verdict};
+use second::calls::{lookup, report, verdict, Verdict};
 use second::generate::{full, generate, good_pack, one_text, questions, OneText};
 use second::generate::{one_fault, one_of_characters, one_span};
 use second::generate::{FULL_KINDS, HOSTILE_KINDS, LIMITS, SERIES};
@@ -61,8 +61,8 @@ fn texts_are_refused_where_they_are_not_utf8() {
     let mut counts = [0; 2];
     let mut texts = HashSet::new();
     for number in 0..SERIES {
-        let OneText { parts, text } = one_text(number);
-        let refused = report(&put_together(&parts)).err().map(|r| r.number);
+        let OneText { listing, text } = one_text(number);
+        let refused = report(&listing).err().map(|r| r.number);
         let must = std::str::from_utf8(&text).err().map(|_| 13);
         assert_eq!(refused, must, "text {number}");
         counts[usize::from(must.is_some())] += 1;

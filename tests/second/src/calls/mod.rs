@@ -1,13 +1,15 @@
-//! The calls in the papers' terms: report, verdict and lookup; write; and fill,
-//! with report and lookup by columns.
+//! The calls in the papers' terms: report, verdict and lookup; write; fill, with
+//! report and lookup by columns; and the report on a metadata listing.
 
 mod columns;
+mod metadata;
 mod octets;
 mod write;
 
 pub use columns::{fill, lookup_columns, report_columns, rewritten};
 pub use columns::{name_entry, Columns, COLUMN_COUNT, ENTRY};
-pub use octets::{fill_call, lookup_columns_call, report_columns_call};
+pub use metadata::report_metadata;
+pub use octets::{fill_call, lookup_columns_call, report_columns_call, report_metadata_call};
 pub use octets::{lookup_call, report_call, verdict_call, write_call};
 pub use octets::{Called, FillCalled, ReportCalled, WriteCalled};
 pub use write::{check_lengths, put_together, size_of, write, Parts};

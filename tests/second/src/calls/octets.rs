@@ -6,10 +6,11 @@
 //!   number, table and row of the place;
 //! * lookup: row, then number, table and row of the place;
 //! * write: number, table, row, octets of the listing;
-//! * fill: number, table, row; report and lookup by columns as those by rows.
+//! * fill: number, table, row; report and lookup by columns as those by rows;
+//! * the report on a metadata listing as report.
 
-use super::{fill, lookup, lookup_columns, report, report_columns, verdict, write};
-use super::{Columns, Parts, Question, Verdict};
+use super::{fill, lookup, lookup_columns, report, report_columns, report_metadata};
+use super::{verdict, write, Columns, Parts, Question, Verdict};
 use crate::listing::{Refusal, NONE};
 use crate::rules::{Finding, WORDS_OF_A_FINDING};
 
@@ -80,6 +81,16 @@ pub fn report_columns_call(
     answer: &[u8],
 ) -> ReportCalled {
     reported(report_columns(listing, columns), findings, answer)
+}
+
+/// `desterlin_report_metadata`, given what both buffers hold before.
+pub fn report_metadata_call(
+    listing: &[u8],
+    metadata: &[u8],
+    findings: &[u8],
+    answer: &[u8],
+) -> ReportCalled {
+    reported(report_metadata(listing, metadata), findings, answer)
 }
 
 fn reported(

@@ -1,12 +1,13 @@
 //! Which calls to make on a listing: reports into buffers of many lengths, all
 //! verdicts, lookups; answers that are exact, longer and too short; `work` of
-//! no octets, of a few and of all that it can use. And which to make on columns.
+//! no octets, of a few and of all that it can use. And which to make on columns and
+//! on a metadata listing.
 
 use super::{Asked, Call, Given};
-use crate::calls::{report, report_columns, rewritten, Question};
+use crate::calls::{report, report_columns, report_metadata, rewritten, Question};
 use crate::generate::{questions, Questions, Random};
 use crate::listing::layout::{CONTENTS, TILES};
-use crate::listing::{read, Listing};
+use crate::listing::{read, read_metadata, Listing};
 use crate::rules::WORDS_OF_A_FINDING;
 
 /// The `work` that serves 262,144 tiles at full speed.
@@ -34,7 +35,7 @@ pub fn calls(seed: u64, octets: &[u8]) -> Vec<Call> {
     let tiles = listing.map_or(0, |listing| listing.count(TILES));
     // Another stream of numbers than those of the listing and the questions.
     let random = Random::new(seed ^ (1 << 63));
-    let mut choice = Choice { random, tiles, calls: Vec::new() };
+    let mut choice = Choice::new(random, tiles);
     let found = report(octets).map_or(0, |findings| findings.len());
     let Questions { mut codes, lookups } = questions(seed, octets);
     if tiles > TOO_MANY_TILES {
@@ -56,7 +57,7 @@ pub fn column_calls(seed: u64, given: Given) -> Vec<Call> {
     let listing = read(judged).ok();
     let tiles = listing.map_or(0, |listing| listing.count(TILES));
     // Another stream of numbers than those of the calls on rows.
-    let mut choice = Choice { random: Random::new(seed ^ (1 << 61)), tiles, calls: Vec::new() };
+    let mut choice = Choice::new(Random::new(seed ^ (1 << 61)), tiles);
     let found = report_columns(given.listing, given.columns).map_or(0, |findings| findings.len());
     let work = choice.work();
     choice.call(Asked::Fill, 0, 0, FILL_ANSWER);
@@ -71,10 +72,24 @@ pub fn column_calls(seed: u64, given: Given) -> Vec<Call> {
     always.into_iter().chain(some).collect()
 }
 
+/// The calls to make on a metadata listing, made from a seed: a report, and half of
+/// those into other buffers; over the seeds each is met.
+pub fn metadata_calls(seed: u64, given: Given) -> Vec<Call> {
+    let contents = read(given.listing).map_or(0, |listing| listing.count(CONTENTS));
+    let files = read_metadata(given.metadata).map_or(0, |metadata| metadata.metadata().count());
+    // Another stream of numbers than those of the other calls.
+    let mut choice = Choice::new(Random::new(seed ^ (1 << 58)), contents + files);
+    let found = report_metadata(given.listing, given.metadata).map_or(0, |found| found.len());
+    choice.reports(Asked::ReportMetadata, found);
+    let Choice { mut random, calls, .. } = choice;
+    let some = calls.into_iter().enumerate().filter(|(at, _)| *at == 0 || random.once_in(2));
+    some.map(|(_, call)| call).collect()
+}
+
 /// Calls that come to little beside reading the listing, made from a seed: for
 /// listings of more text than can be judged, and for those that are many.
 pub fn reader_calls(seed: u64) -> Vec<Call> {
-    let mut choice = Choice { random: Random::new(seed), tiles: 0, calls: Vec::new() };
+    let mut choice = Choice::new(Random::new(seed), 0);
     choice.call(Asked::Lookup(NO_CONTENTS_ROW), 0, 0, LOOKUP_ANSWER);
     // 171 looks at the contents alone; 542 is no code.
     choice.call(Asked::Verdict(171), 0, 0, VERDICT_ANSWER);
@@ -84,8 +99,15 @@ pub fn reader_calls(seed: u64) -> Vec<Call> {
 
 /// The same on columns.
 pub fn column_reader_calls(seed: u64) -> Vec<Call> {
-    let mut choice = Choice { random: Random::new(seed), tiles: 0, calls: Vec::new() };
+    let mut choice = Choice::new(Random::new(seed), 0);
     choice.call(Asked::LookupColumns(NO_CONTENTS_ROW), 0, 0, LOOKUP_ANSWER);
+    choice.calls
+}
+
+/// One report on a metadata listing, and no room for findings.
+pub fn metadata_reader_calls(seed: u64) -> Vec<Call> {
+    let mut choice = Choice::new(Random::new(seed), 0);
+    choice.call(Asked::ReportMetadata, 0, 0, REPORT_ANSWER);
     choice.calls
 }
 
@@ -93,11 +115,17 @@ const NO_CONTENTS_ROW: Question = Question { contents_row: u32::MAX, zoom: 0, co
 
 struct Choice {
     random: Random,
-    tiles: usize,
+    /// The rows that an index in `work` may be of: the tiles, or on a metadata
+    /// listing the contents and the files.
+    rows: usize,
     calls: Vec<Call>,
 }
 
 impl Choice {
+    fn new(random: Random, rows: usize) -> Choice {
+        Choice { random, rows, calls: Vec::new() }
+    }
+
     fn call(&mut self, asked: Asked, findings: usize, work: usize, answer: usize) {
         let fill = self.random.word() as u8;
         self.calls.push(Call { asked, findings, work, answer, fill });
@@ -108,8 +136,8 @@ impl Choice {
     fn call_with_each_work(&mut self, asked: Asked, findings: usize, answer: usize) {
         let fill = self.random.word() as u8;
         let few = 1 + self.random.below(64);
-        let too_few = self.random.below(1 + 8 * self.tiles);
-        let works = match self.tiles > TOO_MANY_TILES {
+        let too_few = self.random.below(1 + 8 * self.rows);
+        let works = match self.rows > TOO_MANY_TILES {
             true => vec![FULL_WORK],
             false => vec![0, few, too_few, FULL_WORK],
         };
@@ -125,7 +153,7 @@ impl Choice {
         }
     }
 
-    /// Reports by rows or by columns, as asked.
+    /// Reports by rows, by columns or on a metadata listing, as asked.
     fn reports(&mut self, asked: Asked, found: usize) {
         let exact = found * FINDING;
         self.call_with_each_work(asked, exact, REPORT_ANSWER);
@@ -144,7 +172,7 @@ impl Choice {
             let (work, answer) = (self.work(), self.long_enough(VERDICT_ANSWER));
             self.call(Asked::Verdict(code), 0, work, answer);
         }
-        if self.tiles <= MANY_TILES {
+        if self.rows <= MANY_TILES {
             self.call_with_each_work(Asked::Verdict(541), 0, VERDICT_ANSWER);
         }
         for answer in self.too_short(VERDICT_ANSWER) {
@@ -175,20 +203,20 @@ impl Choice {
         }
     }
 
-    /// Any length of `work`, often around what an index of the tiles takes:
-    /// 2 MiB serve the most tiles, so that is some 8 octets a tile.
+    /// Any length of `work`, often around what an index of the rows takes: 2 MiB
+    /// serve the most tiles, so that is some 8 octets a tile.
     fn work(&mut self) -> usize {
-        if self.tiles > MANY_TILES {
+        if self.rows > MANY_TILES {
             return FULL_WORK + self.random.below(3);
         }
         match self.random.below(32) {
             0..=3 => 0,
-            4..=7 => 8 * self.tiles,
-            8..=11 => (8 * self.tiles).saturating_sub(1),
+            4..=7 => 8 * self.rows,
+            8..=11 => (8 * self.rows).saturating_sub(1),
             12..=19 => self.random.below(64),
             // Seldom: to fill and to check that many octets takes the time.
             20 => FULL_WORK,
-            _ => self.random.below(64 + 16 * self.tiles),
+            _ => self.random.below(64 + 16 * self.rows),
         }
     }
 
@@ -197,7 +225,7 @@ impl Choice {
         let within = self.random.below(exact + 1);
         let short = exact.saturating_sub(1);
         let longer = exact + 2 + self.random.below(60);
-        if self.tiles > MANY_TILES {
+        if self.rows > MANY_TILES {
             return vec![11, within, short, longer];
         }
         let mut lengths = vec![0, 1, 4, 11, 12, 13, within, short, exact + 1, longer];

@@ -1,20 +1,21 @@
 //! Cases for the comparison with the proved library: the calls to make on a
-//! listing, on one with columns or with parts, and what each of them must return
-//! and leave in its buffers.
+//! listing, on one with columns or with a metadata listing, or with parts, and what
+//! each of them must return and leave in its buffers.
 
 mod choice;
 mod stream;
 mod writes;
 
 pub use choice::{calls, column_calls, column_reader_calls, reader_calls, FILL_ANSWER};
+pub use choice::{metadata_calls, metadata_reader_calls};
 pub use stream::{write_limits, write_seeds, write_texts};
 pub use writes::{few_writes, writes, WriteCall, WRITE_ANSWER};
 
 use crate::calls::{fill_call, lookup_columns_call, report_columns_call, rewritten};
-use crate::calls::{lookup_call, report_call, verdict_call};
+use crate::calls::{lookup_call, report_call, report_metadata_call, verdict_call};
 use crate::calls::{Called, Columns, FillCalled, Question, ReportCalled, COLUMN_COUNT};
-use crate::generate::ColumnsCase;
-use crate::listing::read;
+use crate::generate::{ColumnsCase, MetadataCase};
+use crate::listing::{read, read_metadata};
 use crate::rules::code_named;
 
 /// What a call asks.
@@ -26,26 +27,33 @@ pub enum Asked {
     Fill,
     ReportColumns,
     LookupColumns(Question),
+    ReportMetadata,
 }
 
 static NO_COLUMNS: Columns = [const { Vec::new() }; COLUMN_COUNT];
 
-/// What a call is given: a listing, and the columns of its tiles. A fill is lent
-/// columns of the same lengths.
+/// What a call is given: a listing, and the columns of its tiles or a metadata
+/// listing. A fill is lent columns of the same lengths.
 #[derive(Clone, Copy, Debug)]
 pub struct Given<'a> {
     pub listing: &'a [u8],
     pub columns: &'a Columns,
+    pub metadata: &'a [u8],
 }
 
 impl<'a> Given<'a> {
     pub fn of(case: &'a ColumnsCase) -> Given<'a> {
-        Given { listing: &case.listing, columns: &case.columns }
+        Given { columns: &case.columns, ..Given::alone(&case.listing) }
     }
 
-    /// A listing without columns.
+    /// A listing and the metadata listing that is lent with it.
+    pub fn both(case: &'a MetadataCase) -> Given<'a> {
+        Given { metadata: &case.metadata, ..Given::alone(&case.listing) }
+    }
+
+    /// A listing with neither.
     pub fn alone(listing: &'a [u8]) -> Given<'a> {
-        Given { listing, columns: &NO_COLUMNS }
+        Given { listing, columns: &NO_COLUMNS, metadata: &[] }
     }
 }
 
@@ -81,7 +89,7 @@ pub fn filled(length: usize, fill: u8) -> Vec<u8> {
 impl Call {
     /// What must come of the call.
     pub fn expected(&self, given: Given) -> Expected {
-        let Given { listing, columns } = given;
+        let Given { listing, columns, metadata } = given;
         let findings = filled(self.findings, self.fill);
         let answer = filled(self.answer, self.fill);
         let reported = |called: ReportCalled| (called.returned, called.answer, called.findings);
@@ -96,6 +104,9 @@ impl Call {
             }
             Asked::LookupColumns(question) => {
                 answered(lookup_columns_call(listing, columns, question, &answer))
+            }
+            Asked::ReportMetadata => {
+                reported(report_metadata_call(listing, metadata, &findings, &answer))
             }
         };
         let keeps_work = returned == 0 || self.is_refused_before_work(given);
@@ -115,6 +126,9 @@ impl Call {
             Asked::Verdict(code) => code_named(code).is_none() || read(given.listing).is_err(),
             Asked::ReportColumns => {
                 rewritten(given.listing, given.columns).map_or(true, |l| read(&l).is_err())
+            }
+            Asked::ReportMetadata => {
+                read(given.listing).is_err() || read_metadata(given.metadata).is_err()
             }
             Asked::Lookup(_) | Asked::Fill | Asked::LookupColumns(_) => false,
         }

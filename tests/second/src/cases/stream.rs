@@ -4,17 +4,17 @@
 //! Numbers are little-endian. "Octets" are a u32, how many, and then they
 //! themselves.
 //!
-//! * the mark: `cases 3` and a line feed, eight octets;
-//! * for each listing, for each listing with its four columns, and for each seven
-//!   parts: u32, how many strings of octets are given, 1, 5 or 7; octets, the
-//!   commands that make them, in words; the strings, octets each; u32, how many
-//!   calls; the calls;
+//! * the mark: `cases 4` and a line feed, eight octets;
+//! * for each listing, for each listing with a metadata listing, for each listing
+//!   with its four columns, and for each seven parts: u32, how many strings of
+//!   octets are given, 1, 2, 5 or 7; octets, the commands that make them, in words;
+//!   the strings, octets each; u32, how many calls; the calls;
 //! * the end: u32 0; u32, how many of these there were; u32, how many calls.
 //!
 //! A call:
 //!
 //! * u32, what it asks: 1 report, 2 verdict, 3 lookup; with parts 4 write; with
-//!   columns 5 fill, 6 report, 7 lookup;
+//!   columns 5 fill, 6 report, 7 lookup; with a metadata listing 8 report on that;
 //! * u32, the code of a verdict or the contents row of a lookup, else 0;
 //! * three i64, zoom, column and row of a lookup, else 0;
 //! * three u32, the lengths of output, work and answer, where output is the
@@ -32,18 +32,21 @@
 use std::io::{Result, Write};
 
 use super::{calls, column_calls, column_reader_calls, few_writes, reader_calls, writes};
+use super::{metadata_calls, metadata_reader_calls};
 use super::{Asked, Call, Expected, Given, WriteCall};
 use crate::calls::{Parts, Question};
 use crate::generate::{columns_at_a_limit, cut, full, generate, generate_columns, generate_parts};
+use crate::generate::{full_metadata, generate_metadata, metadata_at_a_limit, text_metadata};
 use crate::generate::{text_columns, text_listing, text_numbers};
 use crate::generate::{ColumnsCase, AS_FILLED, FULL_KINDS, HOSTILE_KINDS, LIMITS};
+use crate::generate::{MetadataCase, FULL_METADATA_KINDS, METADATA_LIMITS};
 use crate::listing::layout::TILES;
 use crate::listing::read;
 
-const MARK: &[u8; 8] = b"cases 3\n";
+const MARK: &[u8; 8] = b"cases 4\n";
 
 /// The listings of so many seeds from the first on, with their calls, and the
-/// parts and the columns of the same seeds, with theirs.
+/// parts, the metadata listings and the columns of the same seeds, with theirs.
 pub fn write_seeds(out: impl Write, first: u64, count: u64) -> Result<()> {
     let mut stream = Stream::begun(out)?;
     for seed in first..first.saturating_add(count) {
@@ -52,6 +55,8 @@ pub fn write_seeds(out: impl Write, first: u64, count: u64) -> Result<()> {
         stream.listing(&origin, &case.listing, &calls(seed, &case.listing))?;
         let parts = generate_parts(seed).parts;
         stream.parts(&format!("parts {seed}"), &parts, &writes(seed, &parts))?;
+        let metadata = generate_metadata(seed, case.listing.clone());
+        stream.metadata(&format!("{origin} | second metadata {seed}"), seed, &metadata)?;
         stream.columns(&origin, seed, case.listing)?;
     }
     stream.ended()
@@ -93,17 +98,41 @@ pub fn write_limits(out: impl Write, most_tiles: usize) -> Result<()> {
         let origin = format!("full {kind} {tiles} | second columns {AS_FILLED}");
         stream.with_columns(&origin, &case, |_| column_reader_calls(turn))?;
     }
+    write_metadata_limits(&mut stream, most_tiles)?;
     stream.ended()
 }
 
+/// The metadata listings at the limits and the full ones.
+fn write_metadata_limits(stream: &mut Stream<impl Write>, most_tiles: usize) -> Result<()> {
+    for (number, _) in METADATA_LIMITS.iter().enumerate() {
+        let Some(case) = metadata_at_a_limit(number) else {
+            continue;
+        };
+        let tiles = read(&case.listing).map_or(0, |listing| listing.count(TILES));
+        if tiles <= most_tiles {
+            stream.metadata(&format!("limit-metadata {number}"), number as u64, &case)?;
+        }
+    }
+    for (turn, kind) in (0..).zip(FULL_METADATA_KINDS) {
+        let tiles = most_tiles.min(TILES_OF_A_FULL_LISTING);
+        if let Some(case) = full_metadata(kind, tiles) {
+            stream.metadata(&format!("full-metadata {kind} {tiles}"), turn, &case)?;
+        }
+    }
+    Ok(())
+}
+
 /// The listings of the series of texts, and behind it of so many seeds from the
-/// first on, each read, written from its parts, and read from columns.
+/// first on, each read, written from its parts, and read from columns; and the
+/// metadata listings with such texts.
 pub fn write_texts(out: impl Write, first: u64, count: u64) -> Result<()> {
     let mut stream = Stream::begun(out)?;
     for number in text_numbers(first, count) {
         stream.reads(&format!("text {number}"), number, &text_listing(number))?;
         let origin = format!("text-columns {number}");
         stream.with_columns(&origin, &text_columns(number), |_| column_reader_calls(number))?;
+        let origin = format!("text-metadata {number}");
+        stream.with_metadata(&origin, &text_metadata(number), &metadata_reader_calls(number))?;
     }
     stream.ended()
 }
@@ -126,8 +155,8 @@ impl<W: Write> Stream<W> {
         self.out.flush()
     }
 
-    /// What some calls are given: a listing, with columns or without, or seven
-    /// parts.
+    /// What some calls are given: a listing, with columns, with a metadata listing
+    /// or alone, or seven parts.
     fn given(&mut self, origin: &str, strings: &[&[u8]], calls: usize) -> Result<()> {
         self.words(&[strings.len() as u32])?;
         self.octets(origin.as_bytes())?;
@@ -161,6 +190,16 @@ impl<W: Write> Stream<W> {
         let case = generate_columns(seed, listing);
         let origin = format!("{origin} | second columns {seed}");
         self.with_columns(&origin, &case, |given| column_calls(seed, given))
+    }
+
+    fn with_metadata(&mut self, origin: &str, case: &MetadataCase, calls: &[Call]) -> Result<()> {
+        self.given(origin, &[&case.listing, &case.metadata], calls.len())?;
+        calls.iter().try_for_each(|call| self.call(call, Given::both(case)))
+    }
+
+    /// A metadata listing with the calls of a seed.
+    fn metadata(&mut self, origin: &str, seed: u64, case: &MetadataCase) -> Result<()> {
+        self.with_metadata(origin, case, &metadata_calls(seed, Given::both(case)))
     }
 
     fn parts(&mut self, origin: &str, parts: &Parts, calls: &[WriteCall]) -> Result<()> {
@@ -198,6 +237,7 @@ impl<W: Write> Stream<W> {
             Asked::Fill => (5, 0, nothing),
             Asked::ReportColumns => (6, 0, nothing),
             Asked::LookupColumns(question) => (7, question.contents_row, question),
+            Asked::ReportMetadata => (8, 0, nothing),
         };
         self.words(&[kind, number])?;
         for number in [address.zoom, address.column, address.row] {

@@ -1,9 +1,10 @@
 //! What the made listings reach: every code found and not found, both ways to
 //! pass 451 and 452, every refusal given and not given, texts on both sides of
-//! 13, every kind of listing; and what the made parts and columns reach. And how
-//! long judging takes.
+//! 13, every kind of listing; and what the made parts, columns and metadata listings
+//! reach. And how long judging takes.
 
 mod columns;
+mod metadata;
 mod spans;
 mod utf8;
 mod writes;
@@ -11,13 +12,15 @@ mod writes;
 use std::fmt;
 use std::time::Instant;
 
-use crate::calls::{lookup, report, verdict, Question};
+use crate::calls::{lookup, report, report_metadata, verdict, Question};
 use crate::generate::{columns_at_a_limit, cut, generate, generate_columns, generate_parts};
-use crate::generate::{kind_names, questions};
-use crate::generate::{text_listing, text_numbers, PartsCase, LIMITS};
+use crate::generate::{generate_metadata, kind_names, metadata_at_a_limit, questions};
+use crate::generate::{text_listing, text_numbers, MetadataCase, PartsCase};
+use crate::generate::{LIMITS, METADATA_LIMITS};
 use crate::listing::{read, Refusal, NONE};
 use crate::rules::{Finding, CODES};
 use columns::Columns;
+use metadata::MetadataLines;
 use spans::Spans;
 use utf8::Utf8;
 use writes::Writes;
@@ -61,6 +64,7 @@ pub struct Table {
     kinds: Vec<Line>,
     writes: Writes,
     columns: Columns,
+    metadata: MetadataLines,
 }
 
 const CODES_WITHOUT_ROW: [u32; 3] = [111, 112, 113];
@@ -68,9 +72,9 @@ const CODES_WITHOUT_ROW: [u32; 3] = [111, 112, 113];
 const OF_A_LISTING: [u32; 9] = [1, 2, 3, 4, 5, 6, 7, 8, 13];
 const OF_A_CALL: [u32; 2] = [9, 10];
 
-/// Makes the listings, parts and columns of so many seeds, those at the limits,
-/// and the listings of the series of texts and of so many seeds behind it, and
-/// counts.
+/// Makes the listings, parts, columns and metadata listings of so many seeds, those
+/// at the limits, and the listings of the series of texts and of so many seeds
+/// behind it, and counts.
 pub fn table(first: u64, count: u64) -> Table {
     let mut table = Table::new();
     for seed in first..first.saturating_add(count) {
@@ -84,6 +88,7 @@ pub fn table(first: u64, count: u64) -> Table {
             table.count_lookup(&case.listing, question);
         }
         table.writes.count(seed, &generate_parts(seed));
+        table.metadata.count(seed, &generate_metadata(seed, case.listing.clone()));
         table.columns.count(seed, &generate_columns(seed, case.listing));
     }
     for (number, (kind, make)) in (0..).zip(&LIMITS) {
@@ -94,6 +99,11 @@ pub fn table(first: u64, count: u64) -> Table {
             table.columns.count(seed, &generate_columns(seed, listing.clone()));
         }
         table.writes.count(number, &PartsCase { kind, parts, listing: Some(listing) });
+    }
+    for (number, _) in METADATA_LIMITS.iter().enumerate() {
+        if let Some(case) = metadata_at_a_limit(number) {
+            table.metadata.count(number as u64, &case);
+        }
     }
     for number in text_numbers(first, count) {
         let listing = text_listing(number);
@@ -128,6 +138,7 @@ impl Table {
             kinds: kind_names().chain(limits).map(kind_line).collect(),
             writes: Writes::new(),
             columns: Columns::new(),
+            metadata: MetadataLines::new(),
         }
     }
 
@@ -200,7 +211,8 @@ impl Table {
         let refusals = self.refusals.iter().map(|(_, line)| line).chain(self.utf8.lines());
         let counted = counted.chain(&self.untestable).chain(refusals);
         let counted = counted.chain([&self.lookups]).chain(&self.kinds);
-        counted.chain(self.writes.lines()).chain(self.columns.lines())
+        let counted = counted.chain(self.writes.lines()).chain(self.columns.lines());
+        counted.chain(self.metadata.lines())
     }
 
     /// The lines on which a count is 0 that must not be.
@@ -244,6 +256,22 @@ fn least_time(mut run: impl FnMut()) -> f64 {
         least = least.min(start.elapsed().as_secs_f64() * 1e3);
     }
     least
+}
+
+/// How long a report on a metadata listing takes, and reading the tile listing
+/// beside it, which is a part of that.
+pub fn metadata_timing(MetadataCase { listing, metadata, .. }: &MetadataCase) -> String {
+    let mut total = 0;
+    let read_time = least_time(|| {
+        std::hint::black_box(read(listing).is_ok());
+    });
+    let report_time =
+        least_time(|| total = report_metadata(listing, metadata).map_or(0, |found| found.len()));
+    format!(
+        "{} and {} octets, {total} findings: read {read_time:.3} ms, report {report_time:.3} ms\n",
+        listing.len(),
+        metadata.len()
+    )
 }
 
 /// How long a report, a verdict on 541 and a lookup take on a listing.

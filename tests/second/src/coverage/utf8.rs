@@ -9,7 +9,7 @@ use std::str::from_utf8;
 use super::Line;
 use crate::calls::Question;
 use crate::generate::{cut, CHARACTERS};
-use crate::listing::layout::{count_at, u32_at, CONTENTS, NAMES, SHAPES};
+use crate::listing::layout::{count_at, u32_at, CONTENTS, LISTING, NAMES, SHAPES};
 use crate::listing::{check_utf8, Listing, Refusal};
 
 /// What stands just beyond the ends of the ranges of Table 3-7.
@@ -250,9 +250,10 @@ impl Utf8 {
     /// Counts a listing, as it was read.
     pub fn count(&mut self, octets: &[u8], refusal: Option<Refusal>) {
         let parts = cut(octets);
-        let listing = Listing::of_tables(parts.each_ref().map(Vec::as_slice));
+        let tables = parts.each_ref().map(Vec::as_slice);
+        let listing = Listing::of_tables(tables);
         let number = refusal.map(|refusal| refusal.number);
-        let is_ill = check_utf8(&listing).is_err();
+        let is_ill = check_utf8(&LISTING, &tables).is_err();
         self.after_7.count(number == Some(7) && is_ill);
         self.after_8.count(number == Some(8) && is_ill);
         if number.is_none() || number == Some(13) {

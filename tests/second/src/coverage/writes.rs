@@ -7,7 +7,7 @@ use crate::calls::{size_of, write, Parts};
 use crate::cases::{writes, WriteCall, WRITE_ANSWER};
 use crate::generate::{kind_names, parts_kind_names, PartsCase};
 use crate::listing::layout::*;
-use crate::listing::{check_contents, check_texts, check_utf8, Listing, Refusal};
+use crate::listing::{check_flags, check_texts, check_utf8, Listing, Refusal};
 
 /// The writer's reasons in their order.
 const ORDER: [u32; 6] = [11, 5, 7, 8, 13, 12];
@@ -73,13 +73,14 @@ impl Known {
         }
         let is_above = counts.iter().zip(&SHAPES).any(|(&n, shape)| n > shape.most as usize);
         // Whole rows alone are looked at, so this is told of ragged parts too.
-        let listing = Listing::of_tables(parts.each_ref().map(Vec::as_slice));
+        let tables = parts.each_ref().map(Vec::as_slice);
+        let listing = Listing::of_tables(tables);
         let faults = [
             (ragged > 0, 11),
             (is_above, 5),
-            (check_texts(&listing).is_err(), 7),
-            (check_contents(&listing).is_err(), 8),
-            (check_utf8(&listing).is_err(), 13),
+            (check_texts(&LISTING, &tables).is_err(), 7),
+            (check_flags(&LISTING, &tables).is_err(), 8),
+            (check_utf8(&LISTING, &tables).is_err(), 13),
         ];
         let faults = faults.iter().filter(|(is_there, _)| *is_there).map(|(_, number)| *number);
         Known {

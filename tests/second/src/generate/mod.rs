@@ -1,7 +1,7 @@
 //! A maker of listings to judge: good ones, ones with planted faults, ones in
 //! which everything collides, damaged ones, and ones at the limits of size; and
-//! of parts to write listings from, and columns to lend with them. All are made
-//! from a seed alone.
+//! of parts to write listings from, and columns and metadata listings to lend with
+//! them. All are made from a seed alone.
 
 mod columns;
 mod damage;
@@ -10,6 +10,7 @@ mod edges;
 mod full;
 mod hostile;
 mod limits;
+mod metadata;
 mod packs;
 mod parts;
 mod plant;
@@ -26,15 +27,23 @@ pub use columns::{columns_kind_names, columns_of, moved_to_columns};
 pub use full::{full, FULL_KINDS};
 pub use hostile::{hostile, HOSTILE_KINDS};
 pub use limits::LIMITS;
-pub use parts::{cut, generate_parts, parts_kind_names, PartsCase};
+pub use metadata::{full_metadata, FULL_METADATA_KINDS};
+pub use metadata::{generate_metadata, good_metadata, metadata_kind_names, one_metadata_fault};
+pub use metadata::{metadata_at_a_limit, MetadataCase, METADATA_LIMITS};
+pub(crate) use metadata::{REFERENCE_SCOPES, SCOPES};
+pub use parts::{cut, cut_by, generate_parts, parts_kind_names, PartsCase};
 pub use questions::{questions, Questions};
 pub use random::Random;
 #[cfg(test)]
 pub(crate) use spans::wild_axis;
-pub use texts::{one_text, text_columns, text_listing, text_numbers, OneText, SERIES};
+pub use texts::{one_text, text_columns, text_listing, text_metadata, text_numbers};
+pub use texts::{OneText, SERIES};
 pub(crate) use utf8::CHARACTERS;
 
-use crate::make::Draft;
+use damage::Damage;
+
+use crate::listing::layout::LISTING;
+use crate::make::{Draft, MetadataDraft};
 
 /// A listing and the kind that it is of.
 pub struct Case {
@@ -67,30 +76,35 @@ static KINDS: [Kind; 36] = [
     kind("dense levels", |random| dense::levels(random).listing()),
     kind("dense extensions", |r| dense::extensions(r).listing()),
     kind("many faults", plant::many),
-    kind("short", damage::short),
-    kind("truncated", damage::truncated),
-    kind("extended", damage::extended),
-    kind("bit flips", damage::bit_flips),
-    kind("octet flips", damage::octet_flips),
-    kind("random octets", damage::random_octets),
-    kind("version and length", damage::version_and_length),
-    kind("counts", damage::counts),
-    kind("offsets", damage::offsets),
-    kind("counts and offsets", damage::counts_and_offsets),
+    kind("short", |r| damaged(r, damage::short)),
+    kind("truncated", |r| damaged(r, damage::truncated)),
+    kind("extended", |r| damaged(r, damage::extended)),
+    kind("bit flips", |r| damaged(r, damage::bit_flips)),
+    kind("octet flips", |r| damaged(r, damage::octet_flips)),
+    kind("random octets", |r| damage::random_octets(r, &LISTING)),
+    kind("version and length", |r| damaged(r, damage::version_and_length)),
+    kind("counts", |r| damaged(r, damage::counts)),
+    kind("offsets", |r| damaged(r, damage::offsets)),
+    kind("counts and offsets", |r| damaged(r, damage::counts_and_offsets)),
     kind("text edges", edges::text_edges),
     kind("nulls", edges::nulls),
     kind("nearly NULL", edges::nearly_null),
     kind("contents flags", edges::contents_flags),
     kind("several refusals", edges::several_refusals),
-    kind("characters", |r| utf8::characters(r).draft.listing()),
-    kind("ill characters", |r| utf8::ill_characters(r).draft.listing()),
-    kind("around multiples of octets", |r| utf8::around_multiples(r).draft.listing()),
+    kind("characters", |r| utf8::characters::<Draft>(r).draft.listing()),
+    kind("ill characters", |r| utf8::ill_characters::<Draft>(r).draft.listing()),
+    kind("around multiples of octets", |r| utf8::around_multiples::<Draft>(r).draft.listing()),
     kind("refusal 13 and others", utf8::with_7_and_8),
     kind("room for findings", sizes::room_for_findings),
     kind("longest for the desk", sizes::longest_for_the_desk),
     kind("mid-size", sizes::mid_size),
     kind("mid-size, few names", sizes::mid_size_collisions),
 ];
+
+fn damaged(random: &mut Random, damage: Damage) -> Vec<u8> {
+    let octets = damage::sound(random);
+    damage(random, &LISTING, octets)
+}
 
 /// The names of all kinds, as [`generate`] gives them.
 pub fn kind_names() -> impl Iterator<Item = &'static str> {
@@ -135,12 +149,13 @@ pub fn one_span(seed: u64) -> (Vec<u8>, [bool; 2]) {
 /// A listing with characters at the edge of being ones, and what the maker knows
 /// of it: the table and the row for which 13 must refuse it, if it must.
 pub fn one_of_characters(seed: u64) -> (Vec<u8>, Option<(u32, u32)>) {
-    let mut random = Random::new(seed);
-    let utf8::Known { draft, place } = match seed % 4 {
-        0 => utf8::characters(&mut random),
-        1 => utf8::ill_characters(&mut random),
-        _ => utf8::around_multiples(&mut random),
-    };
+    let utf8::Known { draft, place } = utf8::any_characters::<Draft>(seed);
+    (draft.listing(), place)
+}
+
+/// The same for a metadata listing.
+pub fn metadata_of_characters(seed: u64) -> (Vec<u8>, Option<(u32, u32)>) {
+    let utf8::Known { draft, place } = utf8::any_characters::<MetadataDraft>(seed);
     (draft.listing(), place)
 }
 

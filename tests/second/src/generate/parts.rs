@@ -74,17 +74,23 @@ fn changed(seed: u64, (kind, changes): (&'static str, &[Change])) -> PartsCase {
 /// Cuts octets where their header says how many rows each table has, as far as
 /// they go. Of an accepted listing that is its tables; of others, anything.
 pub fn cut(octets: &[u8]) -> Parts {
-    let mut rest = octets.get(HEADER_SIZE..).unwrap_or_default();
-    let mut table = 0;
-    Parts::default().map(|_| {
-        table += 1;
-        let is_counted = octets.len() >= HEADER_SIZE;
+    let mut parts = cut_by(&LISTING, octets).into_iter();
+    Parts::default().map(|_| parts.next().unwrap_or_default())
+}
+
+/// The same for either kind of listing.
+pub fn cut_by(format: &Format, octets: &[u8]) -> Vec<Vec<u8>> {
+    let header_size = format.header_size();
+    let is_counted = octets.len() >= header_size;
+    let mut rest = octets.get(header_size..).unwrap_or_default();
+    let parts = format.tables().map(|table| {
         let count = if is_counted { u32_at(octets, count_at(table)) as usize } else { 0 };
-        let length = (count * SHAPES[table - 1].row_size).min(rest.len());
+        let length = (count * format.shape(table).row_size).min(rest.len());
         let (part, after) = rest.split_at(length);
         rest = after;
         part.to_vec()
-    })
+    });
+    parts.collect()
 }
 
 fn without_octets(_: &mut Random, parts: &mut Parts) {

@@ -16,7 +16,8 @@ pub fn questions(seed: u64, octets: &[u8]) -> Questions {
     let mut random = Random::new(!seed);
     let mut codes: Vec<u32> = CODES.iter().map(|code| code.number).collect();
     let listed = random.pick(&codes);
-    codes.extend([listed + 1, random.pick(&[0, 100, 114, 901, u32::MAX, listed << 8])]);
+    let others = [0, 100, 114, 901, 945, 1_025, u32::MAX, listed << 8];
+    codes.extend([listed + 1, random.pick(&others)]);
     codes.retain({
         // "listed + 1" may be listed itself: ask each code once.
         let mut asked = Vec::new();

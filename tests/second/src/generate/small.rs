@@ -228,25 +228,10 @@ pub fn references(random: &mut Random) -> Draft {
 pub fn dates(random: &mut Random) -> Draft {
     let mut draft = Draft::default();
     for _ in 0..1 + random.below(20) {
-        let mut text = moment(random);
-        if random.once_in(3) {
-            let at = random.below(text.len());
-            text[at] = random.pick(b"0129/:-T tZz.\x00\x7f");
-        }
-        if random.once_in(20) {
-            // A digit of two octets for two of one: 24 octets, and no moment.
-            let at = random.below(text.len() - 1);
-            text[at..at + 2].copy_from_slice("\u{660}".as_bytes());
-        }
-        match random.below(12) {
-            0 => text.truncate(random.below(25)),
-            1 => text.push(random.pick(b"Z0 \0")),
-            _ => {}
-        }
         let row = ContentsRow {
             table_name: span(0, 0),
             data_type: span(0, 0),
-            last_change: draft.text_apart(text),
+            last_change: draft.text_apart(edge_moment(random)),
             srs_id: 0,
             flag: 0,
             spare: 0,
@@ -254,6 +239,26 @@ pub fn dates(random: &mut Random) -> Draft {
         draft.contents.push(row);
     }
     draft
+}
+
+/// A moment whose parts are at the edge, or none.
+pub fn edge_moment(random: &mut Random) -> Vec<u8> {
+    let mut text = moment(random);
+    if random.once_in(3) {
+        let at = random.below(text.len());
+        text[at] = random.pick(b"0129/:-T tZz.\x00\x7f");
+    }
+    if random.once_in(20) {
+        // A digit of two octets for two of one: 24 octets, and no moment.
+        let at = random.below(text.len() - 1);
+        text[at..at + 2].copy_from_slice("\u{660}".as_bytes());
+    }
+    match random.below(12) {
+        0 => text.truncate(random.below(25)),
+        1 => text.push(random.pick(b"Z0 \0")),
+        _ => {}
+    }
+    text
 }
 
 fn moment(random: &mut Random) -> Vec<u8> {

@@ -1,12 +1,13 @@
 //! A series of listings with one text each beside the empty ones: every text of
 //! up to four octets at the ends of the ranges of Table 3-7 and one beyond, by
 //! itself and between others. Behind the series come listings of many texts, each
-//! from a seed. Their tiles may stand in columns.
+//! from a seed. Their tiles may stand in columns, and metadata listings have such
+//! texts too.
 
-use super::{moved_to_columns, one_of_characters, ColumnsCase};
-use crate::calls::{put_together, Parts};
-use crate::listing::layout::{NAMES, SHAPES, TILES};
-use crate::make::set_u32;
+use super::{metadata_of_characters, moved_to_columns, one_of_characters};
+use super::{ColumnsCase, MetadataCase};
+use crate::listing::layout::{format_of, Format, LISTING, METADATA_LISTING, TILES};
+use crate::make::{joined, set_u32, Draft};
 
 /// The ends of the ranges for a first octet, and one beyond each.
 const FIRST: [u8; 23] = [
@@ -26,7 +27,7 @@ pub const SERIES: u64 =
 /// The listing of a number: of the series, or behind it of the seeds from 0 on.
 pub fn text_listing(number: u64) -> Vec<u8> {
     match number.checked_sub(SERIES) {
-        None => put_together(&one_text(number).parts),
+        None => one_text(number).listing,
         Some(seed) => one_of_characters(seed).0,
     }
 }
@@ -35,10 +36,19 @@ pub fn text_listing(number: u64) -> Vec<u8> {
 /// of the one tile there.
 pub fn text_columns(number: u64) -> ColumnsCase {
     let listing = match number < SERIES {
-        true => put_together(&one_text_in(number, (TILES, 0)).parts),
+        true => one_text_in(number, (TILES, 0)).listing,
         false => text_listing(number),
     };
     moved_to_columns(listing)
+}
+
+/// The same in a metadata listing, beside a tile listing without rows.
+pub fn text_metadata(number: u64) -> MetadataCase {
+    let metadata = match number.checked_sub(SERIES) {
+        None => one_text_among(number, &METADATA_LISTING).listing,
+        Some(seed) => metadata_of_characters(seed).0,
+    };
+    MetadataCase { kind: "a text", listing: Draft::default().listing(), metadata }
 }
 
 /// The numbers of the series, and of so many seeds from the first on.
@@ -47,20 +57,24 @@ pub fn text_numbers(first: u64, count: u64) -> impl Iterator<Item = u64> {
     (0..SERIES).chain(behind..behind.saturating_add(count))
 }
 
-/// A listing of the series, in parts, and its text.
+/// A listing of the series, and its text.
 pub struct OneText {
-    pub parts: Parts,
+    pub listing: Vec<u8>,
     pub text: Vec<u8>,
 }
 
 /// A text field: its table, and where it stands in a row.
 type Field = (usize, usize);
 
-/// The listing of a number of the series. They take turns in the field that the
-/// text is in, and in what stands around it.
+/// The listing of a number of the series.
 pub fn one_text(number: u64) -> OneText {
-    let fields_of = |table: usize| SHAPES[table - 1].texts.iter().map(move |t| (table, t.at));
-    let fields: Vec<Field> = (1..NAMES).flat_map(fields_of).collect();
+    one_text_among(number, &LISTING)
+}
+
+/// They take turns in the field that the text is in, and in what stands around it.
+fn one_text_among(number: u64, format: &'static Format) -> OneText {
+    let fields_of = |table: usize| format.shape(table).texts.iter().map(move |t| (table, t.at));
+    let fields: Vec<Field> = format.row_tables().flat_map(fields_of).collect();
     one_text_in(number, fields[turn(number) % fields.len()])
 }
 
@@ -98,9 +112,12 @@ fn text(mut at: usize) -> Vec<u8> {
 
 /// One row in each table, of zeros but for this text in its field.
 fn in_a_field((table, at): Field, before: &[u8], text: Vec<u8>, after: &[u8]) -> OneText {
-    let mut parts = SHAPES.map(|shape| vec![0; shape.row_size]);
-    set_u32(&mut parts[table - 1], at, before.len() as u32);
-    set_u32(&mut parts[table - 1], at + 4, text.len() as u32);
-    parts[NAMES - 1] = [before, &text, after].concat();
-    OneText { parts, text }
+    let format = format_of(table);
+    let mut parts: Vec<_> = format.shapes.iter().map(|shape| vec![0; shape.row_size]).collect();
+    let part = &mut parts[table - format.first_table];
+    set_u32(part, at, before.len() as u32);
+    set_u32(part, at + 4, text.len() as u32);
+    parts.pop();
+    parts.push([before, &text, after].concat());
+    OneText { listing: joined(format, &parts), text }
 }

@@ -216,39 +216,69 @@ impl Names {
     }
 }
 
-/// Some rows in every table, with such texts.
-fn rows(random: &mut Random, mut text: impl FnMut(&mut Random) -> Span) -> Draft {
-    let mut draft = Draft::default();
-    for _ in 0..random.below(4) {
-        let (organization, definition) = (text(random), text(random));
-        draft.references.push(ReferenceRow { srs_id: 0, coordsys_id: 0, organization, definition });
+/// Rows of which a maker of texts knows no more than that they have texts.
+pub trait WithTexts: Sized {
+    /// Some rows in every table, with such texts.
+    fn of_texts(random: &mut Random, text: impl FnMut(&mut Random) -> Span) -> Self;
+
+    /// Puts a text into any field of any row. Answers the place, if there is a row.
+    fn put(&mut self, random: &mut Random, text: Span) -> Option<(u32, u32)>;
+
+    fn names(&mut self) -> &mut Vec<u8>;
+}
+
+impl WithTexts for Draft {
+    fn of_texts(random: &mut Random, mut text: impl FnMut(&mut Random) -> Span) -> Draft {
+        let mut draft = Draft::default();
+        for _ in 0..random.below(4) {
+            let (organization, definition) = (text(random), text(random));
+            draft.references.push(ReferenceRow {
+                srs_id: 0,
+                coordsys_id: 0,
+                organization,
+                definition,
+            });
+        }
+        for _ in 0..random.below(4) {
+            let [table_name, data_type, last_change] = [0; 3].map(|_| text(random));
+            let row =
+                ContentsRow { table_name, data_type, last_change, srs_id: 0, flag: 1, spare: 0 };
+            draft.contents.push(row);
+        }
+        for _ in 0..random.below(4) {
+            draft.sets.push(SetRow { table_name: text(random), srs_id: 0, corners: [0.0; 4] });
+        }
+        for zoom in 0..random.from_to(0, 3) {
+            let table_name = text(random);
+            draft.matrices.push(MatrixRow { table_name, zoom, ..EMPTY_MATRIX });
+        }
+        for row in 0..random.from_to(0, 12) {
+            draft.tiles.push(TileRow { table_name: text(random), zoom: 0, column: 0, row });
+        }
+        for _ in 0..random.below(4) {
+            let [table_name, column_name, extension_name, scope] = [0; 4].map(|_| text(random));
+            let is_null = [0; 2].map(|_| random.once_in(4));
+            draft.extensions.push(ExtensionRow {
+                table_name: if is_null[0] { NULL } else { table_name },
+                column_name: if is_null[1] { NULL } else { column_name },
+                extension_name,
+                scope,
+            });
+        }
+        draft
     }
-    for _ in 0..random.below(4) {
-        let [table_name, data_type, last_change] = [0; 3].map(|_| text(random));
-        let row = ContentsRow { table_name, data_type, last_change, srs_id: 0, flag: 1, spare: 0 };
-        draft.contents.push(row);
+
+    fn put(&mut self, random: &mut Random, text: Span) -> Option<(u32, u32)> {
+        let tables: Vec<usize> = (1..=6).filter(|&table| self.counts()[table - 1] > 0).collect();
+        let table = tables.get(random.below(tables.len().max(1)))?;
+        let (row, field) = any_text(random, self, *table)?;
+        *field = text;
+        Some((*table as u32, row as u32))
     }
-    for _ in 0..random.below(4) {
-        draft.sets.push(SetRow { table_name: text(random), srs_id: 0, corners: [0.0; 4] });
+
+    fn names(&mut self) -> &mut Vec<u8> {
+        &mut self.names
     }
-    for zoom in 0..random.from_to(0, 3) {
-        let table_name = text(random);
-        draft.matrices.push(MatrixRow { table_name, zoom, ..EMPTY_MATRIX });
-    }
-    for row in 0..random.from_to(0, 12) {
-        draft.tiles.push(TileRow { table_name: text(random), zoom: 0, column: 0, row });
-    }
-    for _ in 0..random.below(4) {
-        let [table_name, column_name, extension_name, scope] = [0; 4].map(|_| text(random));
-        let is_null = [0; 2].map(|_| random.once_in(4));
-        draft.extensions.push(ExtensionRow {
-            table_name: if is_null[0] { NULL } else { table_name },
-            column_name: if is_null[1] { NULL } else { column_name },
-            extension_name,
-            scope,
-        });
-    }
-    draft
 }
 
 const EMPTY_MATRIX: MatrixRow = MatrixRow {
@@ -262,22 +292,13 @@ const EMPTY_MATRIX: MatrixRow = MatrixRow {
     pixel_y_size: 1.0,
 };
 
-/// Puts a text into any field of any row. Answers the place, if there is a row.
-fn put(random: &mut Random, draft: &mut Draft, text: Span) -> Option<(u32, u32)> {
-    let tables: Vec<usize> = (1..=6).filter(|&table| draft.counts()[table - 1] > 0).collect();
-    let table = tables.get(random.below(tables.len().max(1)))?;
-    let (row, field) = any_text(random, draft, *table)?;
-    *field = text;
-    Some((*table as u32, row as u32))
-}
-
 /// A listing, and the place for which 13 must refuse it, if it must.
-pub struct Known {
-    pub draft: Draft,
+pub struct Known<D> {
+    pub draft: D,
     pub place: Option<(u32, u32)>,
 }
 
-impl Known {
+impl<D: WithTexts> Known<D> {
     /// Rows with good texts, and so many that are ill in place of some of them.
     fn of(
         random: &mut Random,
@@ -285,9 +306,9 @@ impl Known {
         ills: usize,
         good: impl Fn(&Names, &mut Random) -> Span,
         ill: impl Fn(&Names, &mut Random) -> Span,
-    ) -> Known {
+    ) -> Known<D> {
         let mut last = good(&names, random);
-        let mut draft = rows(random, |random| {
+        let mut draft = D::of_texts(random, |random| {
             // Often the text of the row before.
             if !random.once_in(3) {
                 last = good(&names, random);
@@ -296,35 +317,45 @@ impl Known {
         });
         let places = (0..ills).filter_map(|_| {
             let text = ill(&names, random);
-            put(random, &mut draft, text)
+            draft.put(random, text)
         });
         let place = places.min();
-        draft.names = names.octets;
+        *draft.names() = names.octets;
         Known { draft, place }
     }
 }
 
 /// Well-formed texts over one another in every field, strays between them.
-pub fn characters(random: &mut Random) -> Known {
+pub fn characters<D: WithTexts>(random: &mut Random) -> Known<D> {
     let names = Names::any(random);
     Known::of(random, names, 0, Names::good, Names::ill)
 }
 
 /// The same with some that are not well-formed.
-pub fn ill_characters(random: &mut Random) -> Known {
+pub fn ill_characters<D: WithTexts>(random: &mut Random) -> Known<D> {
     let names = Names::any(random);
     let ills = random.pick(&[1, 1, 1, 2, 5, 20]);
     Known::of(random, names, ills, Names::good, Names::ill)
 }
 
 /// Texts from about one multiple of octets to about another, mostly good ones.
-pub fn around_multiples(random: &mut Random) -> Known {
+pub fn around_multiples<D: WithTexts>(random: &mut Random) -> Known<D> {
     let edge = random.pick(&[8, 16, 32, 64, 128, 128, 256, 256, 512]);
     let names = Names::around(random, edge);
     let ills = random.pick(&[0, 0, 0, 1, 1, 2]);
     let good = |names: &Names, random: &mut Random| names.good_around(random, edge);
     let ill = |names: &Names, random: &mut Random| names.ill_around(random, edge);
     Known::of(random, names, ills, good, ill)
+}
+
+/// One of these from a seed.
+pub fn any_characters<D: WithTexts>(seed: u64) -> Known<D> {
+    let mut random = Random::new(seed);
+    match seed % 4 {
+        0 => characters(&mut random),
+        1 => ill_characters(&mut random),
+        _ => around_multiples(&mut random),
+    }
 }
 
 /// An ill text at the end of any names: octets that are no character, with what
@@ -344,7 +375,7 @@ pub fn with_7_and_8(random: &mut Random) -> Vec<u8> {
     }
     for _ in 0..1 + random.below(3) {
         let ill = ill_at_end(random, &mut draft.names);
-        put(random, &mut draft, ill);
+        draft.put(random, ill);
     }
     if random.once_in(2) {
         set_edge_texts(random, &mut draft, 3);

@@ -1,11 +1,14 @@
-//! The listing: its layout, the reasons for turning one away, and its rows.
+//! The listing and its sibling, the metadata listing: their layout, the reasons for
+//! turning one away, and their rows.
 
 pub mod layout;
+mod metadata;
 mod refusals;
 mod rows;
 mod utf8;
 
-pub use refusals::{check_contents, check_texts, check_utf8, read, Refusal};
+pub use metadata::{Metadata, MetadataListing, MetadataReference};
+pub use refusals::{check_flags, check_texts, check_utf8, read, read_metadata, Refusal};
 pub use rows::{Contents, Extension, Extent, Matrix, MatrixSet, Reference, Tile};
 
 use layout::{SHAPES, TABLE_COUNT};

@@ -67,13 +67,13 @@ pub struct Extension<'a> {
 }
 
 /// A text of an accepted listing that cannot be NULL.
-fn text<'a>(names: &'a [u8], row: &[u8], at: usize) -> &'a [u8] {
+pub(super) fn text<'a>(names: &'a [u8], row: &[u8], at: usize) -> &'a [u8] {
     let start = u32_at(row, at) as usize;
     &names[start..start + u32_at(row, at + 4) as usize]
 }
 
 /// A text of an accepted listing that can be NULL.
-fn text_or_null<'a>(names: &'a [u8], row: &[u8], at: usize) -> Option<&'a [u8]> {
+pub(super) fn text_or_null<'a>(names: &'a [u8], row: &[u8], at: usize) -> Option<&'a [u8]> {
     let is_null = u32_at(row, at) == NULL_START && u32_at(row, at + 4) == 0;
     (!is_null).then(|| text(names, row, at))
 }

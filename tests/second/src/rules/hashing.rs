@@ -1,10 +1,11 @@
-//! A quick hash for the judge's own maps. The inputs are test listings, so it
+//! A quick hash for the judges' own maps. The inputs are test listings, so it
 //! need not withstand an enemy; it must only spread well.
 
-use std::collections::HashMap;
+use std::collections::{HashMap, HashSet};
 use std::hash::{BuildHasherDefault, Hasher};
 
 pub type QuickMap<K, V> = HashMap<K, V, BuildHasherDefault<QuickHasher>>;
+pub type QuickSet<K> = HashSet<K, BuildHasherDefault<QuickHasher>>;
 
 const ODD: u64 = 0x9e37_79b9_7f4a_7c15;
 

@@ -1,5 +1,5 @@
 //! The 36 codes and what breaks each of them: document 01, "What counts as a
-//! finding", and request 2026-02.
+//! finding", and request 2026-02; and the eight codes of a metadata listing.
 
 mod codes;
 mod contents;
@@ -10,6 +10,7 @@ mod extensions;
 mod hashing;
 mod judge;
 mod matrices;
+mod metadata;
 mod names;
 mod references;
 mod sets;
@@ -19,6 +20,7 @@ pub use codes::{code_named, Code, CODES};
 pub use doubles::Axis;
 pub use judge::Judge;
 pub use matrices::axes;
+pub use metadata::{MetadataCode, MetadataJudge, METADATA_CODES};
 
 use crate::listing::NONE;
 

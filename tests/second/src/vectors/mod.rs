@@ -16,6 +16,7 @@ mod layout;
 mod levels;
 mod limits;
 mod matrices;
+mod metadata;
 mod paper;
 mod references;
 mod refusals;
@@ -69,6 +70,7 @@ pub fn run(samples: PathBuf) -> Tally {
     writes::check(&mut tally);
     utf8::check(&mut tally);
     columns::check(&mut tally);
+    metadata::check(&mut tally);
     samples::check(&mut tally, &samples);
     tally
 }
