@@ -1,12 +1,13 @@
 /*
- * Desterlin for a C program: report, verdict and lookup on one listing, its tile table in columns, and a writer of
- * listings.
+ * Desterlin for a C program: report, verdict and lookup on one listing, its tile table in columns, a writer of
+ * listings, and a report on the metadata listing that goes with it.
  *
  * A listing is the rows of a GeoPackage 1.2.1 as one string of octets; docs/LISTING.md has its layout, docs/RULES.md
- * what each code means. Link with target/staticlib/libdesterlin.a, which `rt staticlib desterlin` proves and writes: it
- * is x86-64 code. README.md says how a library for another machine is made, and what has to be assumed for it.
+ * what each code means, and docs/METADATA.md both for the metadata tables. Link with
+ * target/staticlib/libdesterlin.a, which `rt staticlib desterlin` proves and writes: it is x86-64 code. README.md says
+ * how a library for another machine is made, and what has to be assumed for it.
  *
- * What holds for all seven calls:
+ * What holds for all eight calls:
  *
  * - A buffer is a pointer and its number of octets. It needs no alignment. The buffers of one call do not overlap.
  *   An empty buffer (0 octets) may have any pointer, NULL too. That each pointer is good for its number of octets is
@@ -36,13 +37,14 @@ extern "C" {
  * The edition of this header and of the library that goes with it. It rises by one with each request that changes what
  * a caller has compiled: a call, a word of an answer, a size, a code, a reason. desterlin.pc has the same one.
  */
-#define DESTERLIN_VERSION 4
+#define DESTERLIN_VERSION 5
 
 /* "None", where a word would be a row number: no row, no partner, no tile. */
 #define DESTERLIN_NONE UINT32_C(4294967295)
 
-/* The longest listing that is not refused, in octets. */
+/* The longest listing and the longest metadata listing that are not refused, in octets. */
 #define DESTERLIN_LISTING_MOST 9762880
+#define DESTERLIN_METADATA_MOST 1314848
 
 /* The octets of each answer, of one finding, and of a column with an entry for each of so many tiles. */
 #define DESTERLIN_REPORT_ANSWER 20
@@ -76,7 +78,10 @@ extern "C" {
 #define DESTERLIN_WORK_FOR(tiles) \
     ((size_t)(tiles) < (DESTERLIN_WORK_FULL - 98304) / 8 ? 98304 + 8 * (size_t)(tiles) : (size_t)DESTERLIN_WORK_FULL)
 
-/* The tables of a listing, as in the place of a refusal. */
+/* Full speed for a report on metadata, which looks up at most 256 names of contents. Less is good too, and none. */
+#define DESTERLIN_METADATA_WORK 4096
+
+/* The tables of a listing, 1 to 7, and of a metadata listing, 11 to 13, as in the place of a refusal. */
 enum desterlin_table {
     DESTERLIN_REFERENCE_SYSTEMS = 1,
     DESTERLIN_CONTENTS = 2,
@@ -84,16 +89,21 @@ enum desterlin_table {
     DESTERLIN_MATRICES = 4,
     DESTERLIN_TILES = 5,
     DESTERLIN_EXTENSIONS = 6,
-    DESTERLIN_NAME_OCTETS = 7
+    DESTERLIN_NAME_OCTETS = 7,
+    DESTERLIN_METADATA_RECORDS = 11,
+    DESTERLIN_METADATA_REFERENCES = 12,
+    DESTERLIN_METADATA_NAME_OCTETS = 13
 };
 
-/* The octets of a row of each table, and how many rows it may have. A row of table 7 is one octet. */
+/* The octets of a row of each table, and how many rows it may have. A row of table 7 or 13 is one octet. */
 #define DESTERLIN_REFERENCE_SYSTEMS_ROW 32
 #define DESTERLIN_CONTENTS_ROW 40
 #define DESTERLIN_MATRIX_SETS_ROW 48
 #define DESTERLIN_MATRICES_ROW 64
 #define DESTERLIN_TILES_ROW 32
 #define DESTERLIN_EXTENSIONS_ROW 32
+#define DESTERLIN_METADATA_RECORDS_ROW 16
+#define DESTERLIN_METADATA_REFERENCES_ROW 64
 #define DESTERLIN_REFERENCE_SYSTEMS_MOST 256
 #define DESTERLIN_CONTENTS_MOST 256
 #define DESTERLIN_MATRIX_SETS_MOST 256
@@ -101,25 +111,30 @@ enum desterlin_table {
 #define DESTERLIN_TILES_MOST 262144
 #define DESTERLIN_EXTENSIONS_MOST 1024
 #define DESTERLIN_NAME_OCTETS_MOST 1048576
+#define DESTERLIN_METADATA_RECORDS_MOST 256
+#define DESTERLIN_METADATA_REFERENCES_MOST 4096
+#define DESTERLIN_METADATA_NAME_OCTETS_MOST 1048576
 
 /*
  * Why a listing is turned away, or not written. Report gives 1 to 8 and 13, verdict 9 too, lookup 10 too; they are
  * checked in the order 9, 1 to 8, 13, 10. Fill gives 1 to 8, 13 and 14, checked in that order. Report and lookup from
  * columns give these, then 7 and 13 of an entry, and the lookup 10 in the end.
- * Write gives 11, 5, 7, 8, 13 and 12, checked in that order. The place is a table number and a row; it is 0 0 where
- * nothing else is said.
+ * Write gives 11, 5, 7, 8, 13 and 12, checked in that order. The report on metadata gives 1 to 8 and 13 of the listing,
+ * then 1 to 8 and 13 of the metadata listing. The place is a table number and a row; it is 0 0 where nothing else is
+ * said. Where a line here has two numbers, the second is the metadata listing's.
  */
 enum desterlin_reason {
     DESTERLIN_ACCEPTED = 0,            /* no refusal; the place is 0 0 */
-    DESTERLIN_REFUSED_SHORT = 1,       /* fewer than 64 octets */
-    DESTERLIN_REFUSED_LONG = 2,        /* more than DESTERLIN_LISTING_MOST octets */
+    DESTERLIN_REFUSED_SHORT = 1,       /* fewer than 64 or 32 octets */
+    DESTERLIN_REFUSED_LONG = 2,        /* more than DESTERLIN_LISTING_MOST or DESTERLIN_METADATA_MOST octets */
     DESTERLIN_REFUSED_VERSION = 3,     /* the version is not 1 */
     DESTERLIN_REFUSED_LENGTH = 4,      /* the total length field is not the octets lent */
     DESTERLIN_REFUSED_COUNT = 5,       /* a count above its most; place: the first such table, 0 */
     DESTERLIN_REFUSED_OFFSET = 6,      /* an offset, or the final end, not as laid down; place: the first such table
-                                          (7 for the final end), 0 */
-    DESTERLIN_REFUSED_TEXT = 7,        /* a text outside table 7, or NULL where not allowed; place: its table and row */
-    DESTERLIN_REFUSED_FLAG = 8,        /* contents flag, spare or absent srs_id not as laid down; place: 2, its row */
+                                          (7 or 13 for the final end), 0 */
+    DESTERLIN_REFUSED_TEXT = 7,        /* a text outside table 7 or 13, or NULL where not allowed; place: its table and
+                                          row */
+    DESTERLIN_REFUSED_FLAG = 8,        /* flags, spare or an absent number not as laid down; place: 2 or 12, its row */
     DESTERLIN_REFUSED_UNKNOWN_CODE = 9, /* verdict: the code is none of the 36 */
     DESTERLIN_REFUSED_NO_TILES = 10,   /* lookup: no such contents row, or its data_type is not "tiles" */
     DESTERLIN_REFUSED_PART = 11,       /* write: a part is not whole rows; place: the first such table, 0 */
@@ -333,6 +348,24 @@ enum desterlin_write_word {
 };
 
 /*
+ * Report on metadata: everything that is wrong with the rows of gpkg_metadata and gpkg_metadata_reference, which a
+ * metadata listing has (docs/METADATA.md), judged beside the listing of the same pack. Of that one the table names of
+ * contents serve, and nothing else; its own findings are desterlin_report's.
+ *
+ * Findings, work and answer are those of desterlin_report, but the codes are those of DESTERLIN_METADATA_CODES, each
+ * finding has a row, and its partner is DESTERLIN_NONE.
+ *
+ * The listing is checked first, and all of it, then the metadata listing. The table of a place tells which of them is
+ * refused: 1 to 7, or 11 to 13. Reasons 1 to 4 have the place 0 0 in either; the listing is at fault where
+ * desterlin_report, or desterlin_lookup, refuses it too, and the metadata listing where they do not.
+ */
+uint32_t desterlin_report_metadata(const uint8_t *listing, size_t listing_size,
+                                   const uint8_t *metadata, size_t metadata_size,
+                                   uint8_t *findings, size_t findings_size,
+                                   uint8_t *work, size_t work_size,
+                                   uint8_t *answer, size_t answer_size);
+
+/*
  * The 36 codes, ascending, with the table whose rows they judge and the rule in short: DESTERLIN_CODES(X) writes
  * X(code, table, words) for each. examples/viewer.c makes a table of words from it.
  */
@@ -375,6 +408,19 @@ enum desterlin_write_word {
     X(641, DESTERLIN_EXTENSIONS, "scope is neither read-write nor write-only")
 
 #define DESTERLIN_CODE_COUNT 36
+
+/* The eight codes of the report on metadata, likewise. No other call knows them: a verdict on one has refusal 9. */
+#define DESTERLIN_METADATA_CODES(X) \
+    X(945, DESTERLIN_METADATA_RECORDS, "md_scope is none of the 19 metadata scopes") \
+    X(965, DESTERLIN_METADATA_REFERENCES, "reference_scope is not geopackage, table, column, row or row/col") \
+    X(975, DESTERLIN_METADATA_REFERENCES, "table_name does not fit its reference_scope, or is not in contents") \
+    X(985, DESTERLIN_METADATA_REFERENCES, "column_name does not fit its reference_scope") \
+    X(995, DESTERLIN_METADATA_REFERENCES, "row_id_value does not fit its reference_scope") \
+    X(1005, DESTERLIN_METADATA_REFERENCES, "timestamp is not YYYY-MM-DDThh:mm:ss.sssZ") \
+    X(1015, DESTERLIN_METADATA_REFERENCES, "md_file_id is no metadata record's id") \
+    X(1025, DESTERLIN_METADATA_REFERENCES, "md_parent_id is no metadata record's id, or is md_file_id")
+
+#define DESTERLIN_METADATA_CODE_COUNT 8
 
 /* The word with this index, counted from 0, of an answer or of any buffer that has it. */
 static inline uint32_t desterlin_word(const uint8_t *octets, size_t index)

@@ -1,12 +1,14 @@
 /*
  * The proved library as a program, which the tools build and run. Its one word says what is asked for:
  *
- *     call-library report < LISTING    the listing's findings, in the lines of the desk program ("finding CODE ROW
- *                                      PARTNER" with "-" for none, then "total N"), without that program's limits
- *     call-library write < PARTS       a line "written OCTETS", and then so many octets: the listing of these parts
+ *     call-library report < LISTING        the listing's findings, in the lines of the desk program ("finding CODE ROW
+ *                                          PARTNER" with "-" for none, then "total N"), without that program's limits
+ *     call-library report-metadata < BOTH  the findings of a metadata listing beside a listing, in the same lines
+ *     call-library write < PARTS           a line "written OCTETS", and then so many octets: the listing of these parts
  *
- * In place of either there may be the line "refused NUMBER TABLE ROW". PARTS are the sizes of the seven parts, each a
- * little-endian number of 64 bits, and then the parts, one after the other.
+ * In place of each there may be the line "refused NUMBER TABLE ROW". PARTS are the sizes of the seven parts, each a
+ * little-endian number of 64 bits, and then the parts, one after the other. BOTH are a listing and a metadata listing,
+ * as two such parts.
  *
  * Exit status: 0 there is an answer, or a refusal; 2 there is none, since something could not be read or written.
  */
@@ -22,8 +24,9 @@ enum { ANSWERED = 0, FAILED = 2 };
 /* Room for the findings of an ordinary pack; one with more of them is judged a second time. */
 enum { ORDINARY = 4096 * DESTERLIN_FINDING };
 
-enum { PARTS = 7 };
+enum { PARTS = 7, LISTINGS = 2 };
 
+/* What is read: a listing, a metadata listing beside it, or parts of a listing. */
 struct part {
     uint8_t *octets;
     size_t size;
@@ -70,14 +73,26 @@ static void print_findings(const uint8_t *findings, uint32_t written)
     }
 }
 
-static int report(void)
+/* A report on what is read, with this room for its findings. */
+typedef void report_call(uint8_t *findings, size_t findings_size, uint8_t answer[DESTERLIN_REPORT_ANSWER]);
+
+static void call_report(uint8_t *findings, size_t findings_size, uint8_t answer[DESTERLIN_REPORT_ANSWER])
 {
-    size_t size = fread(listing, 1, sizeof listing, stdin);
-    if (ferror(stdin))
-        return failed("the listing cannot be read");
+    desterlin_report(parts[0].octets, parts[0].size, findings, findings_size, work, sizeof work,
+                     answer, DESTERLIN_REPORT_ANSWER);
+}
+
+static void call_report_metadata(uint8_t *findings, size_t findings_size, uint8_t answer[DESTERLIN_REPORT_ANSWER])
+{
+    desterlin_report_metadata(parts[0].octets, parts[0].size, parts[1].octets, parts[1].size, findings, findings_size,
+                              work, sizeof work, answer, DESTERLIN_REPORT_ANSWER);
+}
+
+static int print_report(report_call *call)
+{
     uint8_t answer[DESTERLIN_REPORT_ANSWER];
     uint8_t *findings = ordinary;
-    desterlin_report(listing, size, ordinary, sizeof ordinary, work, sizeof work, answer, sizeof answer);
+    call(ordinary, sizeof ordinary, answer);
     if (print_if_refused(answer, DESTERLIN_REPORT_NUMBER))
         return ANSWERED;
     uint32_t total = desterlin_word(answer, DESTERLIN_REPORT_TOTAL);
@@ -86,13 +101,22 @@ static int report(void)
         findings = malloc(findings_size);
         if (findings == NULL)
             return failed("no memory for the findings");
-        desterlin_report(listing, size, findings, findings_size, work, sizeof work, answer, sizeof answer);
+        call(findings, findings_size, answer);
     }
     print_findings(findings, desterlin_word(answer, DESTERLIN_REPORT_WRITTEN));
     printf("total %" PRIu32 "\n", total);
     if (findings != ordinary)
         free(findings);
     return ANSWERED;
+}
+
+static int report(void)
+{
+    parts[0].octets = listing;
+    parts[0].size = fread(listing, 1, sizeof listing, stdin);
+    if (ferror(stdin))
+        return failed("the listing cannot be read");
+    return print_report(call_report);
 }
 
 /* A part may be of any size: whether a listing can carry it is for the library to say. */
@@ -109,12 +133,12 @@ static int read_part(struct part *part, uint64_t size)
     return ANSWERED;
 }
 
-static int read_parts(void)
+static int read_parts(size_t count)
 {
     uint8_t sizes[8 * PARTS];
-    if (fread(sizes, 1, sizeof sizes, stdin) != sizeof sizes)
+    if (fread(sizes, 8, count, stdin) != count)
         return failed("the sizes of the parts break off, or cannot be read");
-    for (size_t i = 0; i < PARTS; i++) {
+    for (size_t i = 0; i < count; i++) {
         uint64_t size = desterlin_word(sizes, 2 * i) | (uint64_t)desterlin_word(sizes, 2 * i + 1) << 32;
         if (read_part(&parts[i], size) != ANSWERED)
             return FAILED;
@@ -122,9 +146,14 @@ static int read_parts(void)
     return getchar() == EOF ? ANSWERED : failed("there are more octets than the parts have");
 }
 
+static int report_metadata(void)
+{
+    return read_parts(LISTINGS) == ANSWERED ? print_report(call_report_metadata) : FAILED;
+}
+
 static int write_listing(void)
 {
-    if (read_parts() != ANSWERED)
+    if (read_parts(PARTS) != ANSWERED)
         return FAILED;
     uint8_t answer[DESTERLIN_WRITE_ANSWER];
     desterlin_write(parts[0].octets, parts[0].size, parts[1].octets, parts[1].size, parts[2].octets, parts[2].size,
@@ -143,10 +172,12 @@ int main(int count, char **words)
     int status;
     if (count == 2 && strcmp(words[1], "report") == 0)
         status = report();
+    else if (count == 2 && strcmp(words[1], "report-metadata") == 0)
+        status = report_metadata();
     else if (count == 2 && strcmp(words[1], "write") == 0)
         status = write_listing();
     else
-        status = failed("say what is asked for: report or write");
+        status = failed("say what is asked for: report, report-metadata or write");
     if (fflush(stdout) != 0 || ferror(stdout))
         return failed("the answer cannot be written");
     return status;

@@ -2,7 +2,7 @@
 
 #include <string.h>
 
-enum { HEADER = 64, TOTAL_LENGTH_AT = 4, MOST_DAMAGES = 4, MOST_ADDED = 96 };
+enum { TOTAL_LENGTH_AT = 4, MOST_DAMAGES = 4, MOST_ADDED = 96 };
 
 uint64_t draw(struct chance *chance)
 {
@@ -48,24 +48,24 @@ static void put_telling_character(struct chance *chance, uint8_t *octets)
 }
 
 /* A place for so many octets, most often behind the header: a spoiled header has the rest never read. */
-static size_t draw_place(struct chance *chance, size_t size, size_t count)
+static size_t draw_place(struct chance *chance, size_t header, size_t size, size_t count)
 {
-    size_t first = size > HEADER + count && draw_below(chance, 8) != 0 ? HEADER : 0;
+    size_t first = size > header + count && draw_below(chance, 8) != 0 ? header : 0;
     size_t place = first + draw_below(chance, size - first - count + 1);
     return count == 1 ? place : place / 4 * 4;
 }
 
-static size_t one_damage(struct chance *chance, uint8_t *octets, size_t size, size_t room)
+static size_t one_damage(struct chance *chance, size_t header, uint8_t *octets, size_t size, size_t room)
 {
     if (size < 8)
         return size;
-    size_t place = draw_place(chance, size, 8);
+    size_t place = draw_place(chance, header, size, 8);
     switch (draw_below(chance, 10)) {
     case 0:
-        octets[draw_place(chance, size, 1)] = (uint8_t)draw(chance);
+        octets[draw_place(chance, header, size, 1)] = (uint8_t)draw(chance);
         return size;
     case 1:
-        octets[draw_place(chance, size, 1)] ^= (uint8_t)(1u << draw_below(chance, 8));
+        octets[draw_place(chance, header, size, 1)] ^= (uint8_t)(1u << draw_below(chance, 8));
         return size;
     case 2:
     case 3:
@@ -79,7 +79,8 @@ static size_t one_damage(struct chance *chance, uint8_t *octets, size_t size, si
         size_t count = 8 * (1 + draw_below(chance, 8));
         if (count > size)
             return size;
-        memmove(octets + draw_place(chance, size, count), octets + draw_place(chance, size, count), count);
+        size_t target = draw_place(chance, header, size, count);
+        memmove(octets + target, octets + draw_place(chance, header, size, count), count);
         return size;
     }
     case 7:
@@ -97,13 +98,13 @@ static size_t one_damage(struct chance *chance, uint8_t *octets, size_t size, si
     }
 }
 
-size_t damage(struct chance *chance, uint8_t *octets, size_t size, size_t room)
+size_t damage(struct chance *chance, size_t header, uint8_t *octets, size_t size, size_t room)
 {
     size_t damages = draw_below(chance, MOST_DAMAGES + 1);
     for (size_t i = 0; i < damages; i++)
-        size = one_damage(chance, octets, size, room);
+        size = one_damage(chance, header, octets, size, room);
     /* A true length lets the other damages through. */
-    if (size >= HEADER && draw_below(chance, 4) != 0)
+    if (size >= header && draw_below(chance, 4) != 0)
         put(octets + TOTAL_LENGTH_AT, size, 4);
     return size;
 }

@@ -18,7 +18,10 @@ size_t draw_below(struct chance *chance, size_t below);
 /* A number at which a reader that is wrong by one, or that wraps, goes wrong: some of them are next to a size. */
 uint64_t telling_number(struct chance *chance, size_t size);
 
-/* Spoils a listing that stands in a buffer of `room` octets, and returns its new size, which is at most that. */
-size_t damage(struct chance *chance, uint8_t *octets, size_t size, size_t room);
+/*
+ * Spoils a listing that has a header of so many octets and stands in a buffer of `room` octets, and returns its new
+ * size, which is at most that.
+ */
+size_t damage(struct chance *chance, size_t header, uint8_t *octets, size_t size, size_t room);
 
 #endif

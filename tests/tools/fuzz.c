@@ -1,12 +1,12 @@
 /*
- * Damaged listings through report, verdict and lookup, their tiles through the calls on columns (fuzz_columns.h) and
- * their parts through write (fuzz_write.h), to see that each call keeps its promises about the buffers that it is lent
- * (fuzz_lent.h).
+ * Damaged listings through report, verdict and lookup, their tiles through the calls on columns (fuzz_columns.h), their
+ * parts through write (fuzz_write.h), and damaged metadata listings beside them through the report on metadata
+ * (fuzz_metadata.h), to see that each call keeps its promises about the buffers that it is lent (fuzz_lent.h).
  *
- *     fuzz COUNT SEED LISTING ..
+ *     fuzz COUNT SEED LISTING .. --metadata METADATA ..
  *
- * Input i is decided by SEED + i alone, so `fuzz 1 NUMBER LISTING ..` repeats the one that a message names. That the
- * answers are right is not tested here (tests/second does that), only that the calls agree with each other.
+ * Input i is decided by SEED + i alone, so `fuzz 1 NUMBER ..` with the same files repeats the one that a message names.
+ * That the answers are right is not tested here (tests/second does that), only that the calls agree with each other.
  *
  * Exit status: 0 every promise kept; 1 one broken; 2 called wrongly.
  */
@@ -20,22 +20,23 @@
 #include "desterlin.h"
 #include "fuzz_columns.h"
 #include "fuzz_lent.h"
+#include "fuzz_metadata.h"
 #include "fuzz_write.h"
 #include "walled.h"
 
-enum { MOST_LISTINGS = 64, FINDINGS_ROOM = 60000, SMALL_LISTING = 4096 };
+enum { HEADER = 64, FINDINGS_ROOM = 60000 };
 
+/* The codes that a verdict knows, and behind them those of metadata, which it does not. */
 static const uint32_t codes[] = {
 #define CODE(code, table, words) code,
     DESTERLIN_CODES(CODE)
+    DESTERLIN_METADATA_CODES(CODE)
 #undef CODE
 };
 
-static struct {
-    size_t count;
-    uint8_t *octets[MOST_LISTINGS];
-    size_t size[MOST_LISTINGS];
-} listings;
+enum { CODES = sizeof codes / sizeof codes[0] };
+
+static struct stock listings, metadata;
 
 static struct {
     struct room listing, findings, work, answer;
@@ -66,13 +67,7 @@ static void tell_found(void)
 
 static struct lent lend_input(struct chance *chance)
 {
-    size_t which = draw_below(chance, listings.count);
-    /* Long listings take long; they come seldom. */
-    for (int tries = 0; tries < 8 && listings.size[which] > SMALL_LISTING; tries++)
-        which = draw_below(chance, listings.count);
-    memcpy(original, listings.octets[which], listings.size[which]);
-    size_t size = damage(chance, original, listings.size[which], sizeof original);
-    return lend_octets(chance, &rooms.listing, original, size);
+    return lend_octets(chance, &rooms.listing, original, draw_damaged(chance, &listings, HEADER, original));
 }
 
 static int is_of_report(uint32_t number)
@@ -112,7 +107,7 @@ static int try_report(struct chance *chance, struct lent listing, struct lent fi
 
 static int is_code(uint32_t code)
 {
-    for (size_t i = 0; i < sizeof codes / sizeof codes[0]; i++)
+    for (size_t i = 0; i < DESTERLIN_CODE_COUNT; i++)
         if (codes[i] == code)
             return 1;
     return 0;
@@ -132,8 +127,8 @@ static void check_findings(const uint8_t *findings, uint32_t written)
 
 static void check_verdict(struct chance *chance, struct lent listing, const uint8_t *findings, const uint32_t report[5])
 {
-    size_t which = draw_below(chance, DESTERLIN_CODE_COUNT + 5);
-    uint32_t code = which < DESTERLIN_CODE_COUNT ? codes[which] : (uint32_t)draw(chance);
+    size_t which = draw_below(chance, CODES + 5);
+    uint32_t code = which < CODES ? codes[which] : (uint32_t)draw(chance);
     struct lent work = lend(chance, &rooms.work, draw_work_size(chance));
     struct lent answer = lend(chance, &rooms.answer, draw_answer_size(chance, DESTERLIN_VERDICT_ANSWER));
     uint32_t returned = desterlin_verdict(listing.octets, listing.size, code, work.octets, work.size,
@@ -247,23 +242,43 @@ static void try_input(uint64_t number)
     check_lookup(&chance, listing, report);
     check_columns(&chance, listing, original, report);
     check_write(&chance, original, listing.size, report);
+    check_metadata(&chance, &metadata, listing, original, report);
 
     tally.reasons[report[DESTERLIN_REPORT_NUMBER]]++;
     if (report[DESTERLIN_REPORT_NUMBER] == DESTERLIN_ACCEPTED)
         ++*(report[DESTERLIN_REPORT_TOTAL] == 0 ? &tally.without_findings : &tally.with_findings);
 }
 
-static void read_listing(const char *path)
+static void read_listing(struct stock *stock, const char *path)
 {
     FILE *file = fopen(path, "rb");
     uint8_t *octets = malloc(LISTING_ROOM);
-    if (file == NULL || octets == NULL || listings.count == MOST_LISTINGS) {
+    if (file == NULL || octets == NULL || stock->count == MOST_LISTINGS) {
         fprintf(stderr, "fuzz: %s cannot be read, or is one too many\n", path);
         exit(2);
     }
-    listings.octets[listings.count] = octets;
-    listings.size[listings.count++] = fread(octets, 1, LISTING_ROOM, file);
+    stock->octets[stock->count] = octets;
+    stock->size[stock->count++] = fread(octets, 1, LISTING_ROOM, file);
     fclose(file);
+}
+
+/* Reads the files that the words name. Returns whether there are some of both kinds. */
+static int read_listings(int count, char **words)
+{
+    struct stock *stock = &listings;
+    for (int i = 0; i < count; i++) {
+        if (strcmp(words[i], "--metadata") == 0)
+            stock = &metadata;
+        else
+            read_listing(stock, words[i]);
+    }
+    return listings.count > 0 && metadata.count > 0;
+}
+
+static void free_listings(struct stock *stock)
+{
+    for (size_t i = 0; i < stock->count; i++)
+        free(stock->octets[i]);
 }
 
 static void print_tally(unsigned long count)
@@ -281,18 +296,18 @@ int main(int count, char **words)
     char *end_of_inputs = NULL, *end_of_seed = NULL;
     unsigned long inputs = count > 3 ? strtoul(words[1], &end_of_inputs, 10) : 0;
     uint64_t seed = count > 3 ? strtoull(words[2], &end_of_seed, 10) : 0;
-    if (count < 4 || *words[1] == '\0' || *end_of_inputs != '\0' || *words[2] == '\0' || *end_of_seed != '\0') {
-        fprintf(stderr, "usage: fuzz COUNT SEED LISTING ..\n");
+    if (count < 4 || *words[1] == '\0' || *end_of_inputs != '\0' || *words[2] == '\0' || *end_of_seed != '\0'
+        || !read_listings(count - 3, words + 3)) {
+        fprintf(stderr, "usage: fuzz COUNT SEED LISTING .. --metadata METADATA ..\n");
         return 2;
     }
-    for (int i = 3; i < count; i++)
-        read_listing(words[i]);
     rooms.listing = make_room(LISTING_ROOM);
     rooms.findings = make_room(FINDINGS_ROOM);
     rooms.work = make_room(DESTERLIN_WORK_FULL);
     rooms.answer = make_room(ANSWER_ROOM);
     make_rooms_for_columns();
     make_rooms_for_writes();
+    make_rooms_for_metadata();
     signal(SIGSEGV, tell_input);
     signal(SIGBUS, tell_input);
     signal(SIGILL, tell_input);
@@ -303,7 +318,8 @@ int main(int count, char **words)
     print_tally(inputs);
     print_columns();
     print_writes();
-    for (size_t i = 0; i < listings.count; i++)
-        free(listings.octets[i]);
+    print_metadata();
+    free_listings(&listings);
+    free_listings(&metadata);
     return 0;
 }

@@ -7,7 +7,7 @@
 
 #include "walled.h"
 
-enum { SENTINELS = 64, FILLINGS = 251 };
+enum { SENTINELS = 64, FILLINGS = 251, SMALL_LISTING = 4096 };
 
 volatile uint64_t input_number;
 
@@ -44,6 +44,16 @@ struct lent lend_octets(struct chance *chance, struct room *room, const uint8_t 
     if (size > 0)
         memcpy(lent.octets, octets, size);
     return lent;
+}
+
+size_t draw_damaged(struct chance *chance, const struct stock *stock, size_t header, uint8_t *octets)
+{
+    size_t which = draw_below(chance, stock->count);
+    /* Long listings take long; they come seldom. */
+    for (int tries = 0; tries < 8 && stock->size[which] > SMALL_LISTING; tries++)
+        which = draw_below(chance, stock->count);
+    memcpy(octets, stock->octets[which], stock->size[which]);
+    return damage(chance, header, octets, stock->size[which], LISTING_ROOM);
 }
 
 int keeps(struct lent lent, size_t from)
@@ -86,10 +96,15 @@ void check(int is_kept, const char *promise)
 
 void check_place(struct lent answer, size_t at)
 {
+    check_place_in(answer, at, DESTERLIN_REFERENCE_SYSTEMS, DESTERLIN_NAME_OCTETS);
+}
+
+void check_place_in(struct lent answer, size_t at, uint32_t first, uint32_t last)
+{
     uint32_t number = desterlin_word(answer.octets, at);
     uint32_t table = desterlin_word(answer.octets, at + 1), row = desterlin_word(answer.octets, at + 2);
     int has_place = (number >= DESTERLIN_REFUSED_COUNT && number <= DESTERLIN_REFUSED_FLAG)
         || number == DESTERLIN_REFUSED_PART || number == DESTERLIN_REFUSED_UTF8 || number == DESTERLIN_REFUSED_COLUMN;
-    check(has_place ? table >= 1 && table <= 7 : table == 0 && row == 0,
+    check(has_place ? table >= first && table <= last : table == 0 && row == 0,
           "a place for reasons 5 to 8, 11, 13 and 14 alone");
 }

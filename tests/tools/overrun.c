@@ -2,8 +2,9 @@
  * Shows that AddressSanitizer is in the proved code: a call is told of more octets than a buffer has, or lent a buffer
  * that is no longer there, and the program must be stopped for it.
  *
- *     overrun BUFFER LISTING        BUFFER is listing, findings, work, answer, filled (a column that is written),
- *                                   column (one that is read) or freed; the listing has tiles and a finding
+ *     overrun BUFFER LISTING METADATA     BUFFER is listing, findings, work, answer, filled (a column that is written),
+ *                                         column (one that is read), metadata or freed; the listing has tiles and a
+ *                                         finding, and the metadata listing is accepted beside it
  *
  * Exit status: 0 nothing has stopped it; 2 called wrongly.
  */
@@ -38,16 +39,35 @@ static void call_on_columns(const uint8_t *listing, size_t listing_size, int is_
 #undef THREE
 }
 
+/* Reports on metadata; a short metadata listing has an octet less than the call is told. */
+static void call_on_metadata(const uint8_t *listing, size_t listing_size, const uint8_t *read, size_t size,
+                             int is_short)
+{
+    uint8_t answer[DESTERLIN_REPORT_ANSWER];
+    uint8_t *metadata = lend(size, size - 1, is_short);
+    memcpy(metadata, read, is_short ? size - 1 : size);
+    desterlin_report_metadata(listing, listing_size, metadata, size, NULL, 0, NULL, 0, answer, sizeof answer);
+}
+
+/* The octets of a file that are read into a buffer; none, where there is no such file. */
+static size_t read_file(const char *path, uint8_t *octets, size_t room)
+{
+    FILE *file = fopen(path, "rb");
+    size_t size = file == NULL ? 0 : fread(octets, 1, room, file);
+    if (file != NULL)
+        fclose(file);
+    return size;
+}
+
 int main(int count, char **words)
 {
-    static uint8_t read[DESTERLIN_LISTING_MOST];
-    FILE *file = count == 3 ? fopen(words[2], "rb") : NULL;
-    if (file == NULL) {
-        fprintf(stderr, "usage: overrun BUFFER LISTING\n");
+    static uint8_t read[DESTERLIN_LISTING_MOST], read_metadata[DESTERLIN_METADATA_MOST];
+    size_t size = count == 4 ? read_file(words[2], read, sizeof read) : 0;
+    size_t metadata_size = count == 4 ? read_file(words[3], read_metadata, sizeof read_metadata) : 0;
+    if (size == 0 || metadata_size == 0) {
+        fprintf(stderr, "usage: overrun BUFFER LISTING METADATA\n");
         return 2;
     }
-    size_t size = fread(read, 1, sizeof read, file);
-    fclose(file);
 
     const char *name = words[1];
     int is_listing_short = strcmp(name, "listing") == 0;
@@ -57,6 +77,7 @@ int main(int count, char **words)
     uint8_t *answer = lend(DESTERLIN_REPORT_ANSWER, DESTERLIN_REPORT_ANSWER - 1, strcmp(name, "answer") == 0);
     memcpy(listing, read, is_listing_short ? size - 1 : size);
     call_on_columns(read, size, strcmp(name, "filled") == 0, strcmp(name, "column") == 0);
+    call_on_metadata(read, size, read_metadata, metadata_size, strcmp(name, "metadata") == 0);
     if (strcmp(name, "freed") == 0)
         free(listing);
     desterlin_report(listing, size, findings, DESTERLIN_FINDING, work, DESTERLIN_WORK_FULL, answer,

@@ -10,7 +10,6 @@ import io
 import os
 import shutil
 import sqlite3
-import struct
 import subprocess
 import sys
 import tempfile
@@ -43,6 +42,9 @@ COLUMNS = {
     "gpkg_tile_matrix": "table_name, zoom_level, matrix_width, matrix_height, tile_width, tile_height, "
     "pixel_x_size, pixel_y_size",
     "gpkg_extensions": "table_name, column_name, extension_name, scope",
+    "gpkg_metadata": "id, md_scope",
+    "gpkg_metadata_reference": "reference_scope, table_name, column_name, row_id_value, timestamp, md_file_id, "
+    "md_parent_id",
 }
 ADDRESS = "zoom_level, tile_column, tile_row"
 DATE = "2024-02-29T00:00:00.000Z"
@@ -140,11 +142,6 @@ class Called:
 def judged_by_second(listing: bytes) -> str:
     """What the second program, an independent judge, finds in a listing."""
     return Ran([SECOND, "judge"], listing).out
-
-
-def framed(parts: Sequence[bytes]) -> bytes:
-    """The parts of a listing as tools/call-library.c takes them."""
-    return struct.pack("<7Q", *map(len, parts)) + b"".join(parts)
 
 
 def has_library() -> bool:

@@ -2,7 +2,7 @@
  * How much stack the calls take: each runs in a thread whose stack was painted before, and the paint that is gone is
  * counted. What the thread takes for itself is counted with it.
  *
- *     stack LISTING ..        each of them is one that is accepted
+ *     stack METADATA LISTING ..     each listing is one that is accepted, and so is the metadata listing beside it
  *
  * Exit status: 0 no call takes more than the 64 KiB of the promise; 1 one does; 2 it could not be measured.
  */
@@ -26,7 +26,8 @@ static uint8_t findings[1 << 20];
 static uint8_t work[DESTERLIN_WORK_FULL];
 static uint8_t written[DESTERLIN_LISTING_MOST];
 static uint8_t columns[4][DESTERLIN_COLUMN_SIZE(DESTERLIN_TILES_MOST)];
-static size_t listing_size;
+static uint8_t metadata[DESTERLIN_METADATA_MOST];
+static size_t listing_size, metadata_size;
 
 static void failed(const char *what)
 {
@@ -107,6 +108,19 @@ static void *write_parts(void *unused)
     return unused;
 }
 
+static void *report_metadata(void *unused)
+{
+    static const size_t work_sizes[] = { sizeof work, DESTERLIN_METADATA_WORK, 0 };
+    uint8_t answer[DESTERLIN_REPORT_ANSWER];
+    for (size_t i = 0; i < sizeof work_sizes / sizeof work_sizes[0]; i++) {
+        desterlin_report_metadata(listing, listing_size, metadata, metadata_size, findings, sizeof findings,
+                                  work, work_sizes[i], answer, sizeof answer);
+        if (desterlin_word(answer, DESTERLIN_REPORT_NUMBER) != DESTERLIN_ACCEPTED)
+            failed("the metadata listing is not accepted");
+    }
+    return unused;
+}
+
 /* The octets of stack that a thread touches. */
 static size_t touched(void *(*body)(void *))
 {
@@ -126,13 +140,15 @@ static size_t touched(void *(*body)(void *))
     return STACK - untouched;
 }
 
-static void read_listing(const char *path)
+/* The octets of a file that are read into a buffer. */
+static size_t read_file(const char *path, uint8_t *octets, size_t room)
 {
     FILE *file = fopen(path, "rb");
     if (file == NULL)
         failed(path);
-    listing_size = fread(listing, 1, sizeof listing, file);
+    size_t size = fread(octets, 1, room, file);
     fclose(file);
+    return size;
 }
 
 int main(int count, char **words)
@@ -142,11 +158,15 @@ int main(int count, char **words)
         void *(*body)(void *);
     } calls[] = {
         { "report", report }, { "verdict", verdict }, { "lookup", lookup }, { "fill", fill },
-        { "report from columns", report_columns }, { "lookup from columns", lookup_columns }, { "write", write_parts }
+        { "report from columns", report_columns }, { "lookup from columns", lookup_columns }, { "write", write_parts },
+        { "report on metadata", report_metadata }
     };
     size_t most = 0;
-    for (int i = 1; i < count; i++) {
-        read_listing(words[i]);
+    if (count < 3)
+        failed("usage: stack METADATA LISTING ..");
+    metadata_size = read_file(words[1], metadata, sizeof metadata);
+    for (int i = 2; i < count; i++) {
+        listing_size = read_file(words[i], listing, sizeof listing);
         for (size_t k = 0; k < sizeof calls / sizeof calls[0]; k++) {
             size_t taken = touched(calls[k].body);
             most = taken > most ? taken : most;

@@ -6,14 +6,18 @@ import hashlib
 import os
 import re
 import shutil
+import struct
 import unittest
 from pathlib import Path
 from typing import List, Tuple
 
-from packs import BUILT, ROOT, SECOND, TESTS, InRoom, Ran, framed, judged_by_second, needs_library
+from packs import BUILT, ROOT, SECOND, TESTS, InRoom, Ran, judged_by_second, needs_library
 
 from desterlin import library
-from desterlin.listing import CONTENTS, LISTING_MOST, MATRICES, NAMES_MOST, SETS, TABLES, TILES, Listing
+from desterlin.listing import (
+    CONTENTS, LISTING, MATRICES, METADATA, METADATA_TABLES, NAMES_MOST, SETS, TABLES, TILES, Listing, MetadataListing,
+    laid,
+)
 from desterlin.rules import RULES
 
 SAMPLES = ROOT / "samples"
@@ -25,9 +29,11 @@ int main(void) { return work[0] + column[7999]; }
 """
 
 # The sum of the header's code, without comments, in each version.
-COMPILED = {1: "e12eb21fc7902aa5", 2: "a8f623c6b065515a", 3: "be91e474c9664c64", 4: "2fafe7db99105671"}
+COMPILED = {
+    1: "e12eb21fc7902aa5", 2: "a8f623c6b065515a", 3: "be91e474c9664c64", 4: "2fafe7db99105671", 5: "8bdd11bf164c65f2",
+}
 
-# From columns, a report and a lookup have the words of those from rows.
+# From columns, a report and a lookup have the words of those from rows, and so has the report on metadata.
 ANSWERS = {
     "report": ["number", "refused table", "refused row", "total", "written"],
     "verdict": ["ruling", "first row", "number", "refused table", "refused row"],
@@ -35,7 +41,7 @@ ANSWERS = {
     "fill": ["number", "refused table", "refused row"],
     "write": ["number", "refused table", "refused row", "octets"],
 }
-CALLS = ["report", "verdict", "lookup", "fill", "report_columns", "lookup_columns", "write"]
+CALLS = ["report", "verdict", "lookup", "fill", "report_columns", "lookup_columns", "write", "report_metadata"]
 
 
 class Header(unittest.TestCase):
@@ -77,7 +83,7 @@ class Header(unittest.TestCase):
             told = text.split(f"(DESTERLIN_{call.upper()}_ANSWER octets)")[1].split("*/")[0]
             self.assertEqual(re.findall(r"^ \*   (\d) ([a-z ]+?)  ", told, re.M), list(zip("01234", words)))
             octets = f"{4 * len(words)} octets"
-            row = re.findall(rf"^\| {call}(?:, {call}_columns)? \| {octets} \| (.*) \|$", page, re.M)
+            row = re.findall(rf"^\| {call}(?:, {call}_\w+)* \| {octets} \| (.*) \|$", page, re.M)
             self.assertEqual([re.sub(r" \(.*?\)", "", line).split(", ") for line in row], [words])
 
     def test_the_calls_are_declared_alike_in_the_page(self) -> None:
@@ -92,13 +98,14 @@ class Header(unittest.TestCase):
         """The tools' tables are those of docs/LISTING.md, as test_words.py sees."""
         text = (ROOT / "include" / "desterlin.h").read_text(encoding="utf-8")
         defined = re.findall(r"^#define DESTERLIN_(\w+_(?:ROW|MOST)) (\d+)$", text, re.M)
-        told = {"NAME_OCTETS_MOST": NAMES_MOST, "LISTING_MOST": LISTING_MOST}
-        for table in TABLES:
+        told = {"LISTING_MOST": LISTING.most, "METADATA_MOST": METADATA.most}
+        told.update({"NAME_OCTETS_MOST": NAMES_MOST, "METADATA_NAME_OCTETS_MOST": NAMES_MOST})
+        for table in [*TABLES, *METADATA_TABLES]:
             name = table.title.upper().replace(" ", "_")
             self.assertIn(f"DESTERLIN_{name} = {table.number},", text)
             told.update({f"{name}_ROW": table.form.size, f"{name}_MOST": table.most})
         self.assertEqual({name: int(number) for name, number in defined}, told)
-        self.assertEqual(LISTING_MOST, 64 + NAMES_MOST + sum(table.form.size * table.most for table in TABLES))
+        self.assertEqual((LISTING.header, LISTING.most, METADATA.header, METADATA.most), (64, 9_762_880, 32, 1_314_848))
 
     def test_what_nobody_would_guess_is_told(self) -> None:
         told = self.told()
@@ -154,7 +161,7 @@ def constant(crate: str, pattern: str) -> int:
 
 class Work(unittest.TestCase):
     """The sizes of the workspace that the header names, by the numbers of the code. Full speed is that of an index with
-    15 heads for 16 rows at the least."""
+    15 heads for 16 rows at the least; a report on metadata has one of contents by their names."""
 
     first_part = constant("report", r"^(?:pub )?const FIRST_PART: usize = (\d+);$")
     spare = constant("index", r"^const SPARE_HEADS: usize = (\d+);$")
@@ -178,6 +185,11 @@ class Work(unittest.TestCase):
             with self.subTest(tiles=tiles, work=work):
                 for heads, rows in self.indexes(work, tiles):
                     self.assertGreaterEqual(16 * heads, 15 * rows)
+
+    def test_is_enough_for_a_report_on_metadata(self) -> None:
+        text = (ROOT / "include" / "desterlin.h").read_text(encoding="utf-8")
+        work = int(re.findall(r"^#define DESTERLIN_METADATA_WORK (\d+)$", text, re.M)[0])
+        self.assertGreaterEqual(16 * self.heads_for(work, CONTENTS.most), 15 * CONTENTS.most)
 
     def test_is_no_more_than_can_be_used(self) -> None:
         for tiles, work in zip(self.tried, work_for(self.tried)):
@@ -220,15 +232,16 @@ class Sanitizers(unittest.TestCase):
     def test_they_see_what_the_proved_code_touches(self) -> None:
         if not is_in_proved_code():
             self.skipTest(sanitizers())
-        program, listing = BUILT / "overrun", SAMPLES / "doubled-address.listing"
+        program = BUILT / "overrun"
+        listings = [SAMPLES / "doubled-address.listing", SAMPLES / "notes.metadata"]
         ran = Ran([TESTS / "cc-sanitized", TESTS / "overrun.c", "-o", program])
         self.assertEqual((ran.status, ran.err), (0, ""))
         os.environ["ASAN_OPTIONS"] = "detect_leaks=0"
-        for buffer in ["listing", "findings", "work", "answer", "filled", "column"]:
+        for buffer in ["listing", "findings", "work", "answer", "filled", "column", "metadata"]:
             with self.subTest(buffer):
-                self.assertIn("AddressSanitizer: heap-buffer-overflow", Ran([program, buffer, listing]).err)
-        self.assertIn("AddressSanitizer: heap-use-after-free", Ran([program, "freed", listing]).err)
-        ran = Ran([program, "none", listing])
+                self.assertIn("AddressSanitizer: heap-buffer-overflow", Ran([program, buffer, *listings]).err)
+        self.assertIn("AddressSanitizer: heap-use-after-free", Ran([program, "freed", *listings]).err)
+        ran = Ran([program, "none", *listings])
         self.assertEqual((ran.status, ran.out, ran.err), (0, "nothing has stopped it\n", ""))
 
 
@@ -351,7 +364,7 @@ class CallLibrary(unittest.TestCase):
         for listing in self.listings():
             if not judged_by_second(listing).startswith("refused"):
                 rows = Listing(listing)
-                ran = Ran([BUILT / "call-library", "write"], framed([*rows.octets.values(), rows.names]))
+                ran = Ran([BUILT / "call-library", "write"], library.framed([*rows.octets.values(), rows.names]))
                 self.assertEqual((ran.status, ran.err), (0, ""))
                 self.assertTrue(ran.octets == b"written %d\n" % len(listing) + listing, "other octets are written")
 
@@ -360,11 +373,14 @@ class CallLibrary(unittest.TestCase):
 class Page(unittest.TestCase):
     """What docs/API.md has in C does what it says."""
 
+    reads = "static uint8_t listing[DESTERLIN_LISTING_MOST];" \
+            "size_t listing_size = fread(listing, 1, sizeof listing, stdin);"
+
     def printed_by_code(self, heading: str, before: str, after: str, octets: bytes = b"") -> bytes:
         """What the code below a heading prints, with more of a program around it."""
         page = (ROOT / "docs" / "API.md").read_text(encoding="utf-8").split(heading)[1]
         code = page.split("```c\n")[1].split("```")[0]
-        headers = '#include <stdio.h>\n#include <stdlib.h>\n#include "desterlin.h"\n'
+        headers = '#include <stdio.h>\n#include <stdlib.h>\n#include <string.h>\n#include "desterlin.h"\n'
         source = f"{headers}int main(void) {{\n{before}\n{code}{after} return 0; }}\n"
         compiler = os.environ.get("DESTERLIN_CC") or ROOT / "tools" / "cc-x86-64"
         flags = ["-std=c99", "-pedantic", "-Wall", "-Wextra", "-Werror", f"-I{ROOT / 'include'}"]
@@ -377,13 +393,21 @@ class Page(unittest.TestCase):
         return ran.octets
 
     def test_tiles_in_columns(self) -> None:
-        reads = "static uint8_t listing[DESTERLIN_LISTING_MOST];"
-        reads += "size_t listing_size = fread(listing, 1, sizeof listing, stdin);"
         prints = 'printf("%u %u\\n", (unsigned)drawn[0], (unsigned)drawn[1]);'
         listing = (SAMPLES / "doubled-address.listing").read_bytes()
-        printed = self.printed_by_code("## Tiles in columns", reads, prints, listing)
+        printed = self.printed_by_code("## Tiles in columns", self.reads, prints, listing)
         answers = [Ran([SECOND, "lookup", 0, 1, column, 0], listing).out for column in range(2)]
         self.assertEqual([f"tile {tile}\n" for tile in printed.decode().split()], answers)
+
+    def test_report_on_metadata(self) -> None:
+        prints = 'printf("%u %u\\n", (unsigned)number, (unsigned)total); fwrite(metadata, 1, sizeof metadata, stdout);'
+        listing = (SAMPLES / "good-pack.listing").read_bytes()
+        line, _, octets = self.printed_by_code("## Report on metadata", self.reads, prints, listing).partition(b"\n")
+        self.assertEqual(line, b"0 0")
+        metadata = MetadataListing(octets)
+        self.assertEqual(metadata.records(), [(1, b"fieldSession")])
+        timestamp = b"2024-02-29T00:00:00.000Z"
+        self.assertEqual(metadata.references(), [(b"geopackage", None, None, timestamp, None, 1, None)])
 
     def test_write(self) -> None:
         prints = 'printf("%u %u\\n", (unsigned)number, (unsigned)octets); fwrite(listing, 1, octets, stdout);'
@@ -407,7 +431,12 @@ class Stack(InRoom):
         for kind, tiles in kinds.items():
             (self.room / kind).write_bytes(Ran([SECOND, "full", kind, tiles]).octets)
         made = [self.room / kind for kind in kinds]
-        ran = Ran([BUILT / "stack", SAMPLES / "many-kinds.listing", SAMPLES / "longest.listing", *made])
+        # As long as one may be, every text as long as the names, which are letters and not ASCII.
+        text = struct.pack("<2I", 0, NAMES_MOST)
+        parts = [(bytes(8) + text) * 256, (text * 4 + bytes(32)) * 4_096, "é".encode() * (NAMES_MOST // 2)]
+        metadata = self.room / "metadata"
+        metadata.write_bytes(laid(METADATA, parts))
+        ran = Ran([BUILT / "stack", metadata, SAMPLES / "many-kinds.listing", SAMPLES / "longest.listing", *made])
         self.assertEqual((ran.status, ran.err), (0, ""), ran.out)
 
 

@@ -25,7 +25,9 @@ class SamplePacks(InRoom):
             "alp": "total 0\n",
             "hill": "total 0\n",
             "meadow": "total 0\n",
+            "resurvey": "total 0\n",
             "slope": "finding 351 2 1\nfinding 451 2 -\nfinding 452 2 -\ntotal 3\n",
+            "survey": "total 0\n",
             "valley": "finding 541 16 4\ntotal 1\n",
         }.items():
             with self.subTest(name):
@@ -40,7 +42,9 @@ class SamplePacks(InRoom):
         self.assertEqual(names, [path.name for path in sorted(PACKS.glob("*.gpkg"))])
         for name in names:
             made, kept = self.room / name, PACKS / name
-            self.assertEqual(*(rows_of(str(pack), lambda words: None).parts for pack in [made, kept]))
+            made_rows, kept_rows = (rows_of(str(pack), lambda words: None) for pack in [made, kept])
+            self.assertEqual(made_rows.parts, kept_rows.parts)
+            self.assertEqual(*(rows.metadata and rows.metadata.parts for rows in [made_rows, kept_rows]))
             if made.read_bytes() != kept.read_bytes():
                 print(f"note: SQLite {sqlite3.sqlite_version} lays {name} out in other octets, with the same rows")
 

@@ -22,7 +22,8 @@ from test_write import EXAMPLE, PAGE
 from desterlin import library
 from desterlin.console import shown_around
 from desterlin.geopackage import rows_of
-from desterlin.listing import EXTENSIONS as EXTENSION_ROWS, REFERENCES, TABLES, TILES, Draft, Listing, Value
+from desterlin.listing import EXTENSIONS as EXTENSION_ROWS, LISTING, REFERENCES, TABLES, TILES, Draft, Listing, Value
+from desterlin.listing import laid as laid_as
 from desterlin.rules import REASONS, Refusal
 from desterlin.texts import Characters, ill_texts
 
@@ -45,11 +46,8 @@ ILL_FORMED = """
 
 
 def laid(parts: Sequence[bytes]) -> bytes:
-    """A listing of these parts. Its header is laid here, since the writer refuses what is no UTF-8."""
-    sizes = [*(table.form.size for table in TABLES), 1]
-    offsets = list(itertools.accumulate(map(len, parts), initial=64))
-    pairs = [(len(part) // size, offset) for part, size, offset in zip(parts, sizes, offsets)]
-    return struct.pack("<16I", 1, offsets[-1], *itertools.chain(*pairs)) + b"".join(parts)
+    """A listing of these parts, without the writer, who refuses what is no UTF-8."""
+    return laid_as(LISTING, parts)
 
 
 def organizations(texts: Sequence[bytes]) -> List[bytes]:

@@ -5,15 +5,15 @@ from __future__ import annotations
 import re
 import unittest
 import xml.dom.minidom
-from typing import List, Tuple
+from typing import Dict, List, Sequence, Tuple
 
 from packs import DATE, ROOT, SECOND, InRoom, Ran, judged_by_second, make_pack, needs_library
 from test_listing import CONTENTS, EXTENSIONS, FARM, INFINITE, MATRICES, PLANTED, SETS, SRS, Change, planted
 
 from desterlin import library, picture
 from desterlin.console import Trouble, shown
-from desterlin.listing import TABLES, Listing
-from desterlin.rules import REASONS, RULES, Finding
+from desterlin.listing import METADATA_TABLES, TABLES, Listing, Table
+from desterlin.rules import ALL_RULES, METADATA_RULES, REASONS, RULES, Finding, Rule
 from desterlin.words import SIDES, Known, lengths, words
 
 
@@ -191,37 +191,58 @@ class Texts(unittest.TestCase):
         self.assertEqual((shown(None), shown(b"NULL"), shown(b"")), ("NULL", '"NULL"', '""'))
 
 
+def page_of(name: str) -> str:
+    return (ROOT / "docs" / f"{name}.md").read_text(encoding="utf-8")
+
+
 class OneWordForEachThing(unittest.TestCase):
     """What is said in more than one place is said alike."""
 
     def test_header(self) -> None:
         header = (ROOT / "include" / "desterlin.h").read_text(encoding="utf-8")
-        tables = {name: int(number) for name, number in re.findall(r"^    (DESTERLIN_\w+) = (\d),?$", header, re.M)}
-        rules = re.findall(r'^    X\((\d+), (DESTERLIN_\w+), "([^"]+)"\)', header, re.M)
-        said = {int(code): (tables[table], told) for code, table, told in rules}
-        self.assertEqual(said, {code: (rule.table.number, rule.words) for code, rule in RULES.items()})
-        self.assertEqual(re.findall(r"DESTERLIN_CODE_COUNT (\d+)", header), [str(len(RULES))])
+        tables = {name: int(number) for name, number in re.findall(r"^    (DESTERLIN_\w+) = (\d+),?$", header, re.M)}
+        for kind, rules in {"": RULES, "METADATA_": METADATA_RULES}.items():
+            block = header.split(f"#define DESTERLIN_{kind}CODES(X)")[1].split("\n\n")[0]
+            lines = re.findall(r'^    X\((\d+), (DESTERLIN_\w+), "([^"]+)"\)', block, re.M)
+            said = [(int(code), tables[table], told) for code, table, told in lines]
+            self.assertEqual(said, [(rule.code, rule.table.number, rule.words) for rule in rules.values()])
+            self.assertEqual(re.findall(rf"DESTERLIN_{kind}CODE_COUNT (\d+)", header), [str(len(rules))])
 
-    def test_rules_page(self) -> None:
-        page = (ROOT / "docs" / "RULES.md").read_text(encoding="utf-8")
-        lines = re.findall(r"^\| (\d{3}) \| (\d) [^|]*\| [^|]*\| ([^|]*) \|", page, re.M)
+    def check_rules(self, page: str, rules: Dict[int, Rule]) -> None:
+        lines = re.findall(r"^\| (\d{3,4}) \| (\d+) [^|]*\| [^|]*\| ([^|]*) \|", page, re.M)
         said = {int(code): (int(table), place.replace(" (", ", ").replace(")", "")) for code, table, place in lines}
-        self.assertEqual(said, {code: (rule.table.number, rule.requirement) for code, rule in RULES.items()})
+        self.assertEqual(said, {code: (rule.table.number, rule.requirement) for code, rule in rules.items()})
 
-    def test_listing_page(self) -> None:
-        page = (ROOT / "docs" / "LISTING.md").read_text(encoding="utf-8")
-        lines = re.findall(r"^\| (\d) \| ([a-z ]+) \| (\d+) \| ([\d,]+) \|", page, re.M)
+    def test_pages_of_rules(self) -> None:
+        self.check_rules(page_of("RULES"), RULES)
+        self.check_rules(page_of("METADATA"), METADATA_RULES)
+
+    def test_every_rule_stands_in_the_order_of_its_code(self) -> None:
+        self.assertEqual(list(ALL_RULES), sorted(ALL_RULES))
+        numbers = [int(re.findall(r"^Req (\d+)", rule.requirement)[0]) for rule in METADATA_RULES.values()]
+        self.assertEqual([10 * number + 5 for number in numbers], list(METADATA_RULES))
+
+    def check_tables(self, page: str, tables: Sequence[Table]) -> None:
+        lines = re.findall(r"^\| (\d+) \| ([a-z ]+) \| (\d+) \| ([\d,]+) \|", page, re.M)
         said = [(int(number), title, int(row), int(most.replace(",", ""))) for number, title, row, most in lines]
-        tables = [(table.number, table.title, table.form.size, table.most) for table in TABLES]
-        self.assertEqual(said, [*tables, (7, "name octets", 1, 1_048_576)])
-        for table in TABLES:
+        *rows, names = said
+        self.assertEqual(rows, [(table.number, table.title, table.form.size, table.most) for table in tables])
+        self.assertEqual(names, (tables[-1].number + 1, "name octets", 1, 1_048_576))
+        for table in tables:
             block = page.split(f"**{table.number}, {table.title}**")[1].split("**")[0]
-            fields = [name for name in re.findall(r"^\| \d+ \| (\w+) \|", block, re.M) if name not in ("flag", "spare")]
-            self.assertEqual(fields, [field.name for field in table.fields])
+            fields = re.findall(r"^\| \d+ \| (\w+) \|", block, re.M)
+            own = [name for name in fields if name not in ("flag", "flags", "spare")]
+            self.assertEqual(own, [field.name for field in table.fields])
+
+    def test_pages_of_tables(self) -> None:
+        self.check_tables(page_of("LISTING"), TABLES)
+        self.check_tables(page_of("METADATA"), METADATA_TABLES)
 
     def test_reasons(self) -> None:
-        page = (ROOT / "docs" / "LISTING.md").read_text(encoding="utf-8")
-        numbers = re.findall(r"^\| (\d+) \| [^|]* \| [^|]* \|$", page.split("## Why a listing is refused")[1], re.M)
+        pattern = r"^\| (\d+) \| [^|]* \| [^|]* \|$"
+        refused = page_of("METADATA").split("## Why a metadata listing is refused")[1].split("\n## ")[0]
+        self.assertEqual(re.findall(pattern, refused, re.M), [*"12345678", "13"])
+        numbers = re.findall(pattern, page_of("LISTING").split("## Why a listing is refused")[1], re.M)
         # 9, 10 and 14 are for verdicts, lookups and columns, which no tool asks for.
         self.assertEqual([int(number) for number in numbers if number not in ("9", "10", "14")], list(REASONS))
         header = (ROOT / "include" / "desterlin.h").read_text(encoding="utf-8")

@@ -10,13 +10,13 @@ from typing import Callable, Dict, List, NamedTuple, Sequence, Tuple
 from unittest import mock
 
 from packs import (
-    PACKS, ROOT, SECOND, Called, CProgram, InRoom, Ran, framed, good, judged_by_second, loaded, needs_library,
+    PACKS, ROOT, SECOND, Called, CProgram, InRoom, Ran, good, judged_by_second, loaded, needs_library,
 )
 
 from desterlin import exporter, library
 from desterlin.console import Trouble
 from desterlin.geopackage import PackRows
-from desterlin.listing import LISTING_MOST, NAMES_MOST, TABLES, Listing
+from desterlin.listing import LISTING, NAMES_MOST, TABLES, Listing
 from desterlin.rules import REASONS, Refusal
 
 GPKG_CHECK = loaded("gpkg-check")
@@ -73,7 +73,7 @@ class Written(CProgram):
     """tests/tools/written.c."""
 
     def call(self, parts: Parts, room: int = ROOM, answer: int = 16) -> Call:
-        ran = Ran([self.program, room, answer], framed(parts))
+        ran = Ran([self.program, room, answer], library.framed(parts))
         assert (ran.status, ran.err) == (0, ""), (ran.status, ran.err)
         around = 2 * GUARD
         shown = ran.octets[1:1 + answer + around], ran.octets[1 + answer + around:]
@@ -99,7 +99,7 @@ CASES: "Dict[str, List[Tuple[Parts, int]]]" = {
     "the example with flag 2 alone, and a buffer of no octets": [(flag_2(PARTS), 0)],
     'the example with `c4` for the E of "EPSG" alone, and a buffer of no octets': [(LATIN, 0)],
     "the example with a name octet `ff` more, which no text covers": [(changed(PARTS, 7, PARTS[6] + b"\xff"), ROOM)],
-    "the example with a buffer of 230 octets, or of more": [(PARTS, 230), (PARTS, 231), (PARTS, LISTING_MOST + 1)],
+    "the example with a buffer of 230 octets, or of more": [(PARTS, 230), (PARTS, 231), (PARTS, LISTING.most + 1)],
     "the example with a buffer of 229 octets": [(PARTS, 229)],
 }
 
@@ -208,17 +208,17 @@ class CallLibrary(unittest.TestCase):
         parts = [bytes(table.form.size) * table.most for table in TABLES] + [bytes(NAMES_MOST)]
         octets = library.written(parts)
         assert isinstance(octets, bytes)
-        self.assertEqual(len(octets), LISTING_MOST)
+        self.assertEqual(len(octets), LISTING.most)
         self.assertTrue(octets[64:] == b"".join(parts), "other octets are written")
 
     def test_a_refusal_cannot_be_taken_for_a_listing(self) -> None:
-        ran = Ran([library.program(), "write"], framed(flag_2(PARTS)))
+        ran = Ran([library.program(), "write"], library.framed(flag_2(PARTS)))
         self.assertEqual((ran.status, ran.out, ran.err), (0, "refused 8 2 0\n", ""))
-        ran = Ran([library.program(), "write"], framed(PARTS))
+        ran = Ran([library.program(), "write"], library.framed(PARTS))
         self.assertEqual((ran.status, ran.octets, ran.err), (0, b"written 230\n" + EXAMPLE, ""))
 
     def test_what_is_no_parts(self) -> None:
-        whole = framed(PARTS)
+        whole = library.framed(PARTS)
         sizes, broken = "the sizes of the parts break off, or cannot be read", "the parts break off, or cannot be read"
         for octets, words in [
             (b"", sizes),
@@ -234,11 +234,11 @@ class CallLibrary(unittest.TestCase):
     def test_what_nobody_can_ask_for(self) -> None:
         for words in [[], ["judge"], ["write", "write"]]:
             ran = Ran([library.program(), *words], EXAMPLE)
-            told = "call-library: say what is asked for: report or write\n"
+            told = "call-library: say what is asked for: report, report-metadata or write\n"
             self.assertEqual((ran.status, ran.out, ran.err), (2, "", told))
 
     def test_no_room_for_what_it_prints(self) -> None:
-        ran = Ran(["sh", "-c", f"'{library.program()}' write > /dev/full"], framed(PARTS))
+        ran = Ran(["sh", "-c", f"'{library.program()}' write > /dev/full"], library.framed(PARTS))
         self.assertEqual((ran.status, ran.err), (2, "call-library: the answer cannot be written\n"))
 
 
@@ -277,8 +277,8 @@ class RefusalsInWords(InRoom):
     def test_of_rows_that_are_spoilt(self) -> None:
         rows_of = exporter.rows_of
 
-        def spoilt_rows(path: str, say: Callable[[str], None]) -> PackRows:
-            rows = rows_of(path, say)
+        def spoilt_rows(path: str, say: Callable[[str], None], with_metadata: bool) -> PackRows:
+            rows = rows_of(path, say, with_metadata)
             return rows._replace(parts=list(spoil(rows.parts)))
 
         for number, spoil, place in SPOILT:

@@ -1,4 +1,5 @@
-"""A GeoPackage's rows as the parts of a listing, with a note of where each row came from, and of what is left out.
+"""A GeoPackage's rows as the parts of a listing, and of a metadata listing where it has metadata tables, with a note of
+where each row came from, and of what is left out.
 
 What a listing cannot carry is Trouble, told with its table and row, all of it at once. Nothing is mended on the way: a
 mended pack would be judged in the place of the one that is shipped. So texts go on octet by octet, UTF-8 or not: which
@@ -19,7 +20,7 @@ from typing import Callable, Dict, Iterator, List, NamedTuple, Optional, Sequenc
 from . import listing
 from .console import counted, shown, told, trouble_with
 from .files import start_of
-from .listing import Draft, Field, Kind, Overfull, Table, Value
+from .listing import Draft, Field, Kind, Layout, Overfull, Table, TileRows, Value
 
 # What every SQLite file begins with.
 MAGIC = b"SQLite format 3\0"
@@ -43,11 +44,15 @@ HIDDEN = 1
 TILE_COLUMNS = {"zoom_level", "tile_column", "tile_row", "tile_data"}
 NAMED_BY_NOTHING = "it has the columns of tiles, and no row of contents (as tiles), matrix sets or matrices names it"
 
+# A table of metadata and one of references to it belong together (GeoPackage 1.2.1, Req 95).
+METADATA_NEEDS = "a GeoPackage with metadata has both gpkg_metadata and gpkg_metadata_reference"
+
 # Python hands SQLite its questions in UTF-8.
 NOT_TO_BE_ASKED_FOR = "its name is not UTF-8, so SQLite cannot be asked for it"
 
-# The last line of what is told of a pack that a listing cannot carry.
+# The last line of what is told of a pack, or of its metadata, that a listing cannot carry.
 NO_LISTING = "it has no listing, so nothing was judged"
+NO_METADATA_LISTING = "its metadata has no listing, so that was not judged"
 
 SQL_NAMES = {
     listing.REFERENCES: b"gpkg_spatial_ref_sys",
@@ -55,6 +60,8 @@ SQL_NAMES = {
     listing.SETS: b"gpkg_tile_matrix_set",
     listing.MATRICES: b"gpkg_tile_matrix",
     listing.EXTENSIONS: b"gpkg_extensions",
+    listing.RECORDS: b"gpkg_metadata",
+    listing.METADATA_REFERENCES: b"gpkg_metadata_reference",
 }
 
 
@@ -108,10 +115,26 @@ class Origins:
         return self.sources[table][bisect_right(self.firsts[table], row) - 1].origin(row)
 
 
+class PackMetadata(NamedTuple):
+    """The parts of the metadata listing of a pack, where nothing hinders it."""
+
+    parts: List[bytes]
+    sources: Dict[Table, List[Source]]
+    not_judged: List[str]
+    hindrances: List[str]
+
+
+NO_METADATA = PackMetadata([], {}, [], [])
+
+
 class PackRows(NamedTuple):
+    """The origins, and what is not judged, are of both listings. The metadata is None where the pack has no table of
+    it."""
+
     parts: List[bytes]
     origins: Origins
     not_judged: List[str]
+    metadata: Optional[PackMetadata] = None
 
 
 class Unfit(Exception):
@@ -136,7 +159,7 @@ class Complaints:
         return [*self.first, f"and {self.more:,} more {self.kind}"] if self.more else self.first
 
 
-def rows_of(path: str, say: Callable[[str], None]) -> PackRows:
+def rows_of(path: str, say: Callable[[str], None], with_metadata: bool = True) -> PackRows:
     """The rows of a pack; `say` is told how far the reading has come."""
     start = start_of(path, 100)
     if not start.startswith(MAGIC):
@@ -145,7 +168,8 @@ def rows_of(path: str, say: Callable[[str], None]) -> PackRows:
     uses_wal = start[19:20] == b"\2"
     try:
         with address_of(path, uses_wal, say) as address, contextlib.closing(opened(address)) as connection:
-            return Reading(path, connection, say).rows()
+            metadata = MetadataReading(connection, say).rows() if with_metadata else None
+            return TileReading(path, connection, say).rows(metadata)
     except SQLITE_ERRORS as error:
         raise trouble_with(path, words_of_sqlite(error)) from error
 
@@ -291,78 +315,30 @@ def stand_in(field: Field) -> Value:
 
 
 class Reading:
-    """One pass over a pack."""
+    """One pass over the tables of a pack that a listing of one layout has."""
 
-    def __init__(self, path: str, connection: sqlite3.Connection, say: Callable[[str], None]) -> None:
-        self.path = path
+    def __init__(self, connection: sqlite3.Connection, say: Callable[[str], None], layout: Layout) -> None:
         self.connection = connection
         self.say = say
-        self.draft = Draft()
-        self.sources: Dict[Table, List[Source]] = {table: [] for table in listing.TABLES}
+        self.draft = Draft(layout)
+        self.sources: Dict[Table, List[Source]] = {table: [] for table in layout.tables}
         self.bad_tables = Complaints("tables")
         self.bad_cells = Complaints("cells")
-        self.not_judged: List[str] = []
         rows = connection.execute("SELECT type, name FROM sqlite_master WHERE type IN ('table', 'view')")
         self.relations = {without_case(name): Relation(bytes(name), kind == b"view") for kind, name in rows}
 
-    def rows(self) -> PackRows:
-        self.add_metadata(listing.REFERENCES, needed_by="a GeoPackage has one")
-        self.add_metadata(listing.CONTENTS, needed_by="a GeoPackage has one")
-        has_tiles = any(row.data_type == b"tiles" for row in self.draft.rows().contents())
-        needed_by = "gpkg_contents names tiles" if has_tiles else None
-        self.add_metadata(listing.SETS, needed_by)
-        self.add_metadata(listing.MATRICES, needed_by)
-        names = self.tile_names()
-        for name in names:
-            self.add_tiles(name)
-        self.add_metadata(listing.EXTENSIONS, needed_by=None)
-        if self.is_hindered():
-            lines = [*self.bad_tables.lines(), *self.bad_cells.lines(), *self.not_judged]
-            raise trouble_with(self.path, *lines, NO_LISTING)
-        self.note_unnamed(set(map(without_case, names)))
-        return PackRows(self.draft.parts(), Origins(self.sources), self.not_judged)
+    def hindrances(self) -> List[str]:
+        return [*self.bad_tables.lines(), *self.bad_cells.lines()]
 
-    def is_hindered(self) -> bool:
-        return bool(self.bad_tables.first or self.bad_cells.first)
+    def has_table(self, table: Table) -> bool:
+        return SQL_NAMES[table] in self.relations
 
-    def add_metadata(self, table: Table, needed_by: Optional[str]) -> None:
-        """The rows of a table whose name begins with gpkg_. One that nothing needs may be missing: it has no rows."""
+    def add_table(self, table: Table) -> None:
+        """The rows of a table whose name begins with gpkg_; one that is missing has none."""
         name = SQL_NAMES[table]
-        relation = self.relations.get(name)
-        if relation is not None:
+        if self.has_table(table):
             self.say(f"reading {name.decode()}")
-            self.add_rows(table, relation, [])
-        elif needed_by is not None:
-            self.bad_tables.add(f"there is no table {name.decode()}, and {needed_by}")
-
-    def tile_names(self) -> List[bytes]:
-        """The tables whose tiles are listed: those that are named in contents as tiles, in a matrix set or in a
-        matrix, in that order. One that is named in several letter cases is listed once, as it is first spelled."""
-        rows = self.draft.rows()
-        names = [row.table_name for row in rows.contents() if row.data_type == b"tiles"]
-        names += [row.table_name for row in rows.sets()]
-        names += [row.table_name for row in rows.matrices()]
-        first_spelled: Dict[bytes, bytes] = {}
-        for name in dict.fromkeys(names):
-            first = first_spelled.setdefault(without_case(name), name)
-            if first != name and without_case(name) in self.relations:
-                same = f"to SQLite that is {shown(first)}, and as tiles of {shown(first)} they are judged"
-                self.not_judged.append(f"tiles of {shown(name)}: {same}")
-        if self.is_hindered():
-            # It may be the stand-in for a name.
-            first_spelled.pop(b"", None)
-        return list(first_spelled.values())
-
-    def add_tiles(self, name: bytes) -> None:
-        relation = self.relations.get(without_case(name))
-        if relation is None:
-            self.not_judged.append(f"tiles of {shown(name)}: they are announced, but there is no such table or view")
-        elif not is_utf_8(name):
-            # The row that names it has the same octets, and with that row the writer refuses the listing.
-            self.not_judged.append(f"tiles of {shown(name)}: {NOT_TO_BE_ASKED_FOR}")
-        else:
-            self.say(f"reading the {relation.words()}")
-            self.add_rows(listing.TILES, relation._replace(name=name), [name])
+            self.add_rows(table, self.relations[name], [])
 
     def add_rows(self, table: Table, relation: Relation, given: Sequence[Value]) -> None:
         """All rows of a table or view. `given` are the values of the first fields, the others are columns."""
@@ -431,6 +407,88 @@ class Reading:
         one for no rows, might have to work a view out first."""
         rows = self.connection.execute(f"PRAGMA main.table_xinfo({sql_name(relation)})").fetchall()
         return [without_case(name).decode() for _, name, *_, hidden in rows if hidden != HIDDEN]
+
+
+class MetadataReading(Reading):
+    """One pass over the metadata tables."""
+
+    def __init__(self, connection: sqlite3.Connection, say: Callable[[str], None]) -> None:
+        super().__init__(connection, say, listing.METADATA)
+
+    def rows(self) -> Optional[PackMetadata]:
+        """None where the pack has none of the tables. One that is there without the other is judged by itself."""
+        missing = [table for table in listing.METADATA_TABLES if not self.has_table(table)]
+        if missing == listing.METADATA_TABLES:
+            return None
+        for table in listing.METADATA_TABLES:
+            self.add_table(table)
+        not_judged = [f"there is no table {SQL_NAMES[table].decode()}, and {METADATA_NEEDS}" for table in missing]
+        return PackMetadata(self.draft.parts(), self.sources, not_judged, self.hindrances())
+
+
+class TileReading(Reading):
+    """One pass over the other tables, and over the tables of tiles that they name."""
+
+    def __init__(self, path: str, connection: sqlite3.Connection, say: Callable[[str], None]) -> None:
+        super().__init__(connection, say, listing.LISTING)
+        self.path = path
+        self.not_judged: List[str] = []
+
+    def rows(self, metadata: Optional[PackMetadata]) -> PackRows:
+        """The rows, with those of the metadata, if there are any."""
+        self.add_needed(listing.REFERENCES, "a GeoPackage has one")
+        self.add_needed(listing.CONTENTS, "a GeoPackage has one")
+        has_tiles = any(row.data_type == b"tiles" for row in self.drafted().contents())
+        for table in [listing.SETS, listing.MATRICES]:
+            self.add_needed(table, "gpkg_contents names tiles" if has_tiles else None)
+        names = self.tile_names()
+        for name in names:
+            self.add_tiles(name)
+        self.add_table(listing.EXTENSIONS)
+        beside = metadata or NO_METADATA
+        if self.hindrances():
+            raise trouble_with(self.path, *self.hindrances(), *beside.hindrances, *self.not_judged, NO_LISTING)
+        self.note_unnamed(set(map(without_case, names)))
+        origins = Origins({**self.sources, **beside.sources})
+        return PackRows(self.draft.parts(), origins, self.not_judged + beside.not_judged, metadata)
+
+    def drafted(self) -> TileRows:
+        return TileRows(self.draft.parts())
+
+    def add_needed(self, table: Table, needed_by: Optional[str]) -> None:
+        """The rows of a table that may not be missing where something needs it."""
+        self.add_table(table)
+        if needed_by is not None and not self.has_table(table):
+            self.bad_tables.add(f"there is no table {SQL_NAMES[table].decode()}, and {needed_by}")
+
+    def tile_names(self) -> List[bytes]:
+        """The tables whose tiles are listed: those that are named in contents as tiles, in a matrix set or in a
+        matrix, in that order. One that is named in several letter cases is listed once, as it is first spelled."""
+        rows = self.drafted()
+        names = [row.table_name for row in rows.contents() if row.data_type == b"tiles"]
+        names += [row.table_name for row in rows.sets()]
+        names += [row.table_name for row in rows.matrices()]
+        first_spelled: Dict[bytes, bytes] = {}
+        for name in dict.fromkeys(names):
+            first = first_spelled.setdefault(without_case(name), name)
+            if first != name and without_case(name) in self.relations:
+                same = f"to SQLite that is {shown(first)}, and as tiles of {shown(first)} they are judged"
+                self.not_judged.append(f"tiles of {shown(name)}: {same}")
+        if self.hindrances():
+            # It may be the stand-in for a name.
+            first_spelled.pop(b"", None)
+        return list(first_spelled.values())
+
+    def add_tiles(self, name: bytes) -> None:
+        relation = self.relations.get(without_case(name))
+        if relation is None:
+            self.not_judged.append(f"tiles of {shown(name)}: they are announced, but there is no such table or view")
+        elif not is_utf_8(name):
+            # The row that names it has the same octets, and with that row the writer refuses the listing.
+            self.not_judged.append(f"tiles of {shown(name)}: {NOT_TO_BE_ASKED_FOR}")
+        else:
+            self.say(f"reading the {relation.words()}")
+            self.add_rows(listing.TILES, relation._replace(name=name), [name])
 
     def note_unnamed(self, listed: Set[bytes]) -> None:
         """Notes each table or view that has the columns of tiles and whose rows are not listed, neither under its own

@@ -45,10 +45,14 @@ def judged(octets: bytes) -> Union[Refusal, List[Finding]]:
     return answer(asked("report", octets).decode("ascii").splitlines())
 
 
+def judged_metadata(octets: bytes, metadata: bytes) -> Union[Refusal, List[Finding]]:
+    """The same of a metadata listing beside a listing, of which either may be refused."""
+    return answer(asked("report-metadata", framed([octets, metadata])).decode("ascii").splitlines())
+
+
 def written(parts: Sequence[bytes]) -> Union[Refusal, bytes]:
     """The listing of the seven parts, or why the library refuses to write it."""
-    sizes = struct.pack("<7Q", *map(len, parts))
-    line, _, octets = asked("write", b"".join([sizes, *parts])).partition(b"\n")
+    line, _, octets = asked("write", framed(parts)).partition(b"\n")
     words = line.decode("ascii", "replace").split()
     refusal = refused(words)
     if refusal is not None:
@@ -56,6 +60,11 @@ def written(parts: Sequence[bytes]) -> Union[Refusal, bytes]:
     if words != ["written", str(len(octets))]:
         raise Trouble(f"the library's listing breaks off after {counted(len(octets), 'octet')}")
     return octets
+
+
+def framed(parts: Sequence[bytes]) -> bytes:
+    """Several strings of octets as call-library takes them."""
+    return struct.pack(f"<{len(parts)}Q", *map(len, parts)) + b"".join(parts)
 
 
 def asked(what: str, octets: bytes) -> bytes:

@@ -7,10 +7,10 @@ import math
 from typing import Dict, Iterator, NamedTuple, Optional
 
 from .check import Judged
-from .console import UNUSABLE, counted, plain
-from .listing import TABLES, Table, Value
+from .console import counted, plain
+from .listing import Table, Value
 from .many import Outcome
-from .rules import RULES, Finding
+from .rules import Finding
 from .words import SIDES, Known, finite, lengths, words
 
 # A matrix that is off by less than this share of its extent is no map in the wrong place.
@@ -31,10 +31,9 @@ def verdict(judged: Judged) -> str:
     return f"{found}, and {parts} not judged" if judged.not_judged else found
 
 
-def pieces(judged: Judged, wanted: Wanted, trouble: Optional[str]) -> Iterator[str]:
-    """The report. The trouble, if there is any, is with what was to be made beside it."""
+def pieces(judged: Judged, wanted: Wanted) -> Iterator[str]:
     if wanted.is_json:
-        return json_pieces(judged, wanted, trouble)
+        return json_pieces(judged, wanted)
     return (plain(line) + "\n" for line in text_lines(judged, wanted))
 
 
@@ -47,14 +46,14 @@ def pieces_of_trouble(outcome: Outcome, is_json: bool) -> Iterator[str]:
 
 
 def text_lines(judged: Judged, wanted: Wanted) -> Iterator[str]:
-    known = Known(judged.listing)
+    known = Known(judged.listing, judged.metadata)
     yield f"{judged.path}: {verdict(judged)}"
     code = None
     for finding in judged.findings[:wanted.most]:
         if finding.code != code:
             code = finding.code
             yield ""
-            yield f"{code}  {RULES[code].words} ({RULES[code].requirement})"
+            yield f"{code}  {judged.rules[code].words} ({judged.rules[code].requirement})"
         yield f"     {place(judged, finding)}: {words(known, finding)}"
     if left_out(judged, wanted):
         yield ""
@@ -72,7 +71,7 @@ def left_out(judged: Judged, wanted: Wanted) -> int:
 
 
 def place(judged: Judged, finding: Finding) -> str:
-    rule = RULES[finding.code]
+    rule = judged.rules[finding.code]
     if finding.row is None:
         return rule.table.title
     here = f"{rule.table.title} {row_words(judged, rule.table, finding.row)}"
@@ -88,13 +87,12 @@ def row_words(judged: Judged, table: Table, row: int) -> str:
 
 
 def summary_lines(judged: Judged, known: Known) -> Iterator[str]:
-    counts = judged.listing.counts
-    yield "judged: " + ", ".join(f"{table.title} {counts[table]:,}" for table in TABLES)
+    yield "judged: " + ", ".join(f"{table.title} {count:,}" for table, count in judged.counts.items())
     tally = judged.tally()
     for code, count in tally.items():
-        yield f"{count:9,}  {code}  {RULES[code].words}"
+        yield f"{count:9,}  {code}  {judged.rules[code].words}"
     if tally:
-        yield f"{len(judged.findings):9,}  in all; {counted(len(RULES) - len(tally), 'rule')} without findings"
+        yield f"{len(judged.findings):9,}  in all; {counted(len(judged.rules) - len(tally), 'rule')} without findings"
     of_sides = sum(tally.get(code, 0) for code in SIDES)
     if of_sides:
         those = f"of {counted(of_sides, 'finding')} of 451 and 452"
@@ -111,19 +109,19 @@ def slight(judged: Judged, known: Known) -> int:
     return sum(share is not None and share < SLIGHT for share in shares)
 
 
-def json_pieces(judged: Judged, wanted: Wanted, trouble: Optional[str]) -> Iterator[str]:
+def json_pieces(judged: Judged, wanted: Wanted) -> Iterator[str]:
     """One object on one line; in pieces, so that a long report need not stand in memory twice."""
-    known = Known(judged.listing)
+    known = Known(judged.listing, judged.metadata)
     head = {
         "path": judged.path,
-        "status": judged.status if trouble is None else UNUSABLE,
+        "status": judged.status,
         "total": len(judged.findings),
         "not_judged": judged.not_judged,
-        "rows": {table.title: judged.listing.counts[table] for table in TABLES},
-        "summary": [{"code": code, "rule": RULES[code].words, "count": n} for code, n in judged.tally().items()],
+        "rows": {table.title: count for table, count in judged.counts.items()},
+        "summary": [{"code": code, "rule": judged.rules[code].words, "count": n} for code, n in judged.tally().items()],
         "slight": slight(judged, known),
         "left_out": left_out(judged, wanted),
-        **({} if trouble is None else {"trouble": trouble}),
+        **trouble_object(judged),
     }
     yield json.dumps(head)[:-1] + ', "findings": ['
     for at, finding in enumerate(judged.findings[:wanted.most]):
@@ -131,8 +129,15 @@ def json_pieces(judged: Judged, wanted: Wanted, trouble: Optional[str]) -> Itera
     yield "]}\n"
 
 
+def trouble_object(judged: Judged) -> Dict[str, object]:
+    if not judged.troubles:
+        return {}
+    facts = {name: fact for trouble in judged.troubles for name, fact in trouble.facts.items()}
+    return {"trouble": "\n".join(map(str, judged.troubles)), **facts}
+
+
 def finding_object(judged: Judged, known: Known, finding: Finding) -> Dict[str, object]:
-    rule = RULES[finding.code]
+    rule = judged.rules[finding.code]
     return {
         "code": finding.code,
         "rule": rule.words,
@@ -164,7 +169,7 @@ def apart(known: Known, finding: Finding) -> Dict[str, object]:
 def row_object(judged: Judged, table: Table, row: Optional[int]) -> Optional[Dict[str, object]]:
     if row is None:
         return None
-    values = judged.listing.values(table, row)
+    values = judged.values(table, row)
     columns = {field.name: json_value(value) for field, value in zip(table.fields, values)}
     return {"table": table.title, "row": row, "origin": judged.origins.of(table, row), "columns": columns}
 

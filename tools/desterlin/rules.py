@@ -1,11 +1,11 @@
-"""The 36 rules (code, table, words and the place in GeoPackage 1.2.1), and the reasons for which there is no judgement.
-docs/RULES.md and docs/LISTING.md say each in full."""
+"""The 36 rules and the eight of metadata (code, table, words and the place in GeoPackage 1.2.1), and the reasons for
+which there is no judgement. docs/RULES.md, docs/METADATA.md and docs/LISTING.md say each in full."""
 
 from __future__ import annotations
 
 from typing import NamedTuple, Optional
 
-from .listing import CONTENTS, EXTENSIONS, MATRICES, REFERENCES, SETS, TILES, Table
+from .listing import CONTENTS, EXTENSIONS, MATRICES, METADATA_REFERENCES, RECORDS, REFERENCES, SETS, TILES, Table
 
 
 class Rule(NamedTuple):
@@ -76,7 +76,24 @@ RULES = {
     ]
 }
 
-# Why a listing is refused, or not written, by number (docs/LISTING.md). No tool asks for what has 9, 10 and 14.
+METADATA_RULES = {
+    rule.code: rule
+    for rule in [
+        Rule(945, RECORDS, "md_scope is none of the 19 metadata scopes", "Req 94, Table 21"),
+        Rule(965, METADATA_REFERENCES, "reference_scope is not geopackage, table, column, row or row/col", "Req 96"),
+        Rule(975, METADATA_REFERENCES, "table_name does not fit its reference_scope, or is not in contents", "Req 97"),
+        Rule(985, METADATA_REFERENCES, "column_name does not fit its reference_scope", "Req 98"),
+        Rule(995, METADATA_REFERENCES, "row_id_value does not fit its reference_scope", "Req 99"),
+        Rule(1005, METADATA_REFERENCES, "timestamp is not YYYY-MM-DDThh:mm:ss.sssZ", "Req 100"),
+        Rule(1015, METADATA_REFERENCES, "md_file_id is no metadata record's id", "Req 101"),
+        Rule(1025, METADATA_REFERENCES, "md_parent_id is no metadata record's id, or is md_file_id", "Req 102"),
+    ]
+}
+
+ALL_RULES = {**RULES, **METADATA_RULES}
+
+# Why a listing, or a metadata listing, is refused or not written, by number (docs/LISTING.md). No tool asks for what
+# has 9, 10 and 14.
 REASONS = {
     1: "it has fewer octets than a header",
     2: "it has more octets than a listing may have",
@@ -85,7 +102,7 @@ REASONS = {
     5: "a table has more rows than it may",
     6: "a table does not begin, or the last one not end, where it must",
     7: "a text lies outside the name octets, or is NULL where it may not be",
-    8: "a contents row's flag, spare or absent srs_id is not as laid down",
+    8: "a row's flags, spare or absent number is not as laid down",
     11: "the octets of a table are not whole rows",
     12: "there is no room for it",
     13: "a text is not well-formed UTF-8",

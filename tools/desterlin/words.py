@@ -7,7 +7,9 @@ import struct
 from typing import Callable, Dict, List, NamedTuple, Optional, Tuple
 
 from .console import shown
-from .listing import NAME_OCTETS, TABLES, Listing, Matrix, MatrixSet, Table, Tile
+from .listing import (
+    METADATA_TABLES, NAME_OCTETS, TABLES, Listing, Matrix, MatrixSet, MetadataListing, MetadataReference, Table, Tile,
+)
 from .rules import REASONS, Finding, Refusal
 
 # Up to here every product of whole numbers is a double.
@@ -21,9 +23,13 @@ GAPS_ALLOWED = 4
 
 
 class Known:
-    """The rows of one accepted listing, with what the words ask for again and again."""
+    """The rows of an accepted listing, and of a metadata listing beside it, if there is one, with what the words ask
+    for again and again."""
 
-    def __init__(self, listing: Listing) -> None:
+    def __init__(self, listing: Listing, metadata: Optional[MetadataListing] = None) -> None:
+        self.records = metadata.records() if metadata else []
+        self.metadata_references = metadata.references() if metadata else []
+        self.metadata_ids = {record.id for record in self.records}
         self.tile = listing.tile
         self.references = listing.references()
         self.contents = listing.contents()
@@ -72,7 +78,7 @@ def refusal_words(refusal: Refusal, origin: Callable[[Table, int], Optional[str]
     words = f"reason {refusal.number}: {REASONS[refusal.number]}"
     if refusal.table == 0:
         return words
-    table = {table.number: table for table in TABLES}.get(refusal.table)
+    table = {table.number: table for table in [*TABLES, *METADATA_TABLES]}.get(refusal.table)
     place = f"table {refusal.table}, {table.title if table else NAME_OCTETS}, row {refusal.row}"
     came_from = origin(table, refusal.row) if table and refusal.number in OF_ONE_ROW else None
     return f"{words} ({place}: {came_from})" if came_from else f"{words} ({place})"
@@ -379,6 +385,63 @@ def wrong_scope(known: Known, found: Found) -> str:
     return f"{shown(row.extension_name)}: scope is {shown(row.scope)}"
 
 
+# Metadata
+
+
+def wrong_metadata_scope(known: Known, found: Found) -> str:
+    row = known.records[found.row]
+    return f"id {row.id}: md_scope is {shown(row.md_scope)}"
+
+
+def of_scope(row: MetadataReference) -> str:
+    return f"reference_scope {shown(row.reference_scope)}"
+
+
+def wrong_reference_scope(known: Known, found: Found) -> str:
+    return f"reference_scope is {shown(known.metadata_references[found.row].reference_scope)}"
+
+
+def wrong_table(known: Known, found: Found) -> str:
+    row = known.metadata_references[found.row]
+    if row.table_name is None or row.reference_scope == b"geopackage":
+        return ill_fitting("table_name")(known, found)
+    return f"{of_scope(row)}: {unlisted(known, row.table_name)}"
+
+
+def ill_fitting(column: str) -> Words:
+    """A column that is NULL though the scope asks for a value, or the other way round."""
+
+    def told(known: Known, found: Found) -> str:
+        row = known.metadata_references[found.row]
+        value = getattr(row, column)
+        there = "NULL" if value is None else f"{value if isinstance(value, int) else shown(value)} and not NULL"
+        return f"{of_scope(row)}: {column} is {there}"
+
+    return told
+
+
+def wrong_timestamp(known: Known, found: Found) -> str:
+    return f"timestamp is {shown(known.metadata_references[found.row].timestamp)}"
+
+
+def no_record(known: Known, column: str, number: int) -> List[str]:
+    """The fault of a number that is no id, if it is one."""
+    return [] if number in known.metadata_ids else [f"{column} is {number}, and no metadata record has that id"]
+
+
+def unknown_file(known: Known, found: Found) -> str:
+    return "; ".join(no_record(known, "md_file_id", known.metadata_references[found.row].md_file_id))
+
+
+def wrong_parent(known: Known, found: Found) -> str:
+    row = known.metadata_references[found.row]
+    assert row.md_parent_id is not None
+    wrong = no_record(known, "md_parent_id", row.md_parent_id)
+    if row.md_parent_id == row.md_file_id:
+        wrong.append(f"md_parent_id and md_file_id are both {row.md_file_id}")
+    return "; ".join(wrong)
+
+
 # Doubles
 
 
@@ -470,4 +533,12 @@ WITH_A_ROW: Dict[int, Words] = {
     621: wrong_extension_name,
     622: repeated_extension,
     641: wrong_scope,
+    945: wrong_metadata_scope,
+    965: wrong_reference_scope,
+    975: wrong_table,
+    985: ill_fitting("column_name"),
+    995: ill_fitting("row_id_value"),
+    1005: wrong_timestamp,
+    1015: unknown_file,
+    1025: wrong_parent,
 }
