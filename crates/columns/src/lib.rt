@@ -1,4 +1,6 @@
 // Tiles in columns: filled from a listing, checked, and cut for whoever reads tiles.
+#![tactic(auto)]
+
 mod check;
 mod entries;
 mod filling;

@@ -1,4 +1,6 @@
 // The desk program: reads one listing from standard input and prints its findings, each on a line.
+#![tactic(auto)]
+
 use libc::{STDIN_FILENO, STDOUT_FILENO};
 use rules::NONE;
 

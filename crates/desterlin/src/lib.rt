@@ -1,4 +1,6 @@
 // The eight calls for C. Numbers and octet buffers only; words are little-endian. docs/API.md is for their callers.
+#![tactic(auto)]
+
 ghost use Rattle.std.specs.Prelude.{◌≡◌, [], ◌∷◌, ◌≤◌, length};
 ghost use Rattle.std.proofs.lemmas.List.Edits.{sets};
 ghost use Rattle.octets.specs.Numbers.{signed};

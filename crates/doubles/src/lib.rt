@@ -1,4 +1,6 @@
 // Doubles, as rules 351, 451, 452, 511, 521 and 531 judge them.
+#![tactic(auto)]
+
 ghost use Rattle.std.specs.Prelude.{◌≡◌, ◌<◌, ◌^◌};
 ghost use Rattle.std.specs.Float.{binary64};
 ghost use Rattle.std.specs.Float.Ieee.{of_bits};
@@ -6,7 +8,7 @@ ghost use Rattle.octets.specs.Numbers.{signed, natural};
 ghost use Rattle.doubles.specs.Doubles.{positive, apart, near, twice, strictly_below, magnitude, gap_above, gap_of, difference, within_four, same_length, measures, spans_x, spans_y};
 
 // The four corner values of a set row.
-#[derive(Drop)]
+#[derive(Clone, Copy)]
 pub struct Extent {
     pub min_x: f64,
     pub min_y: f64,

@@ -1,7 +1,9 @@
 // What the calls answer. The definitions are in specs/.
 
 // What a verdict answers.
-#[derive(Drop)]
+#![tactic(auto)]
+
+#[derive(Clone, Copy)]
 pub enum Ruling {
     Pass,
     Fail(usize),
@@ -10,7 +12,7 @@ pub enum Ruling {
 }
 
 // What a lookup answers.
-#[derive(Drop)]
+#[derive(Clone, Copy)]
 pub enum Located {
     At(usize),
     Nowhere,

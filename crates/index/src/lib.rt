@@ -1,4 +1,6 @@
 // Rows found by their keys in near-constant time: one chained index over lent octets, for every kind of key.
+#![tactic(auto)]
+
 use octets::Name;
 
 mod contents;
@@ -21,7 +23,7 @@ pub use tiles::{enter_address, find_name, index_names};
 pub use work::start;
 
 // What is indexed beside tiles, and by which key.
-#[derive(Drop)]
+#[derive(Clone, Copy)]
 pub enum Kind {
     // matrices
     Level,
@@ -34,7 +36,7 @@ pub enum Kind {
 }
 
 // A key to look for.
-#[derive(Drop)]
+#[derive(Clone, Copy)]
 pub enum Key {
     Level { name: Name, zoom: u64 },
     MatrixName(Name),

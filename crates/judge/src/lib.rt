@@ -1,4 +1,6 @@
 // The rules on rows as the code reads them, and the rule of a code.
+#![tactic(auto)]
+
 ghost use Rattle.std.specs.Prelude.{◌≡◌, map};
 ghost use Rattle.pack.specs.Tables.{pack_in};
 ghost use Rattle.rules.specs.Codes.{table_of, judged, judged_none};
@@ -31,14 +33,14 @@ pub use matrices::first_step;
 pub use tiles::placed;
 
 // The axis that a rule measures: 451 and 561 go by x, 452 and 571 by y.
-#[derive(Drop)]
+#[derive(Clone, Copy)]
 pub enum Axis {
     X,
     Y,
 }
 
 // Which index a code goes by.
-#[derive(Drop)]
+#[derive(Clone, Copy)]
 pub enum Plan {
     // none
     Plain,

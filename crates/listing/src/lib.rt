@@ -1,4 +1,6 @@
 // The reader of a listing: refused under one reason, or its tables. And what a writer needs of it: the check of rows, the header.
+#![tactic(auto)]
+
 ghost use Rattle.std.specs.Prelude.{◌≡◌, ◌+◌, ◌<◌};
 ghost use Rattle.listing.specs.Listing.{count, offset};
 
@@ -16,14 +18,14 @@ pub use rows::{is_faulty, rows_of, skip_clear};
 pub use tables::{TABLE_COUNT, cut, cut_in, slice_of, table_at};
 
 // Which listing it is: that of a pack, or its sibling for the metadata. Tables are counted from 1 in each; a refusal names those of the metadata 11 to 13.
-#[derive(Drop)]
+#[derive(Clone, Copy)]
 pub enum Format {
     Edition1,
     Metadata,
 }
 
 // Each table knows the octets of its row and its most rows. What the header says of it: how many rows, and where.
-#[derive(Drop)]
+#[derive(Clone, Copy)]
 pub struct ReferenceTable {
     pub count: u32,
     pub offset: u32,
@@ -48,7 +50,7 @@ impl ReferenceTable {
     }
 }
 
-#[derive(Drop)]
+#[derive(Clone, Copy)]
 pub struct ContentsTable {
     pub count: u32,
     pub offset: u32,
@@ -73,7 +75,7 @@ impl ContentsTable {
     }
 }
 
-#[derive(Drop)]
+#[derive(Clone, Copy)]
 pub struct SetTable {
     pub count: u32,
     pub offset: u32,
@@ -98,7 +100,7 @@ impl SetTable {
     }
 }
 
-#[derive(Drop)]
+#[derive(Clone, Copy)]
 pub struct MatrixTable {
     pub count: u32,
     pub offset: u32,
@@ -123,7 +125,7 @@ impl MatrixTable {
     }
 }
 
-#[derive(Drop)]
+#[derive(Clone, Copy)]
 pub struct TileTable {
     pub count: u32,
     pub offset: u32,
@@ -148,7 +150,7 @@ impl TileTable {
     }
 }
 
-#[derive(Drop)]
+#[derive(Clone, Copy)]
 pub struct ExtensionTable {
     pub count: u32,
     pub offset: u32,
@@ -173,7 +175,7 @@ impl ExtensionTable {
     }
 }
 
-#[derive(Drop)]
+#[derive(Clone, Copy)]
 pub struct NameTable {
     pub count: u32,
     pub offset: u32,
@@ -199,7 +201,7 @@ impl NameTable {
 }
 
 // Of the metadata: 11, gpkg_metadata, here notes, and 12, gpkg_metadata_reference, here links from a note to what it is about. The names, 13, are as above.
-#[derive(Drop)]
+#[derive(Clone, Copy)]
 pub struct NoteTable {
     pub count: u32,
     pub offset: u32,
@@ -217,7 +219,7 @@ impl NoteTable {
     }
 }
 
-#[derive(Drop)]
+#[derive(Clone, Copy)]
 pub struct LinkTable {
     pub count: u32,
     pub offset: u32,
@@ -235,7 +237,7 @@ impl LinkTable {
     }
 }
 
-#[derive(Drop)]
+#[derive(Clone, Copy)]
 pub struct Layout {
     pub references: ReferenceTable,
     pub contents: ContentsTable,
@@ -247,34 +249,34 @@ pub struct Layout {
 }
 
 // What is asked of a text: whether it is outside the names, or NULL where that is not allowed; or whether it is that or not well-formed.
-#[derive(Drop)]
+#[derive(Clone, Copy)]
 pub enum TextFault {
     Outside,
     Either,
 }
 
 // How the two numbers of a text stand: the start before the length, as in rows, or behind it, as in a column of little-endian numbers.
-#[derive(Drop)]
+#[derive(Clone, Copy)]
 pub enum TextOrder {
     StartFirst,
     LengthFirst,
 }
 
 // What a check of some reasons says: none is there, or the first that is.
-#[derive(Drop)]
+#[derive(Clone, Copy)]
 pub enum Checked {
     Clean,
     Fault { number: u32, table: u32, row: u32 },
 }
 
-#[derive(Drop)]
+#[derive(Clone, Copy)]
 pub enum Outcome {
     Accepted(Layout),
     Refused { number: u32, table: u32, row: u32 },
 }
 
 // The rows of a table, one after the other: the row it stands at, and the end.
-#[derive(Drop)]
+#[derive(Clone, Copy)]
 pub struct Cursor {
     pub row: usize,
     pub end: usize,

@@ -1,4 +1,6 @@
 // The metadata tables of a sibling listing: its rows by value, whether it is accepted beside a tile listing, and what the rules of 2026-05 say of a row.
+#![tactic(auto)]
+
 ghost use Rattle.std.specs.Prelude.{◌≡◌, map};
 ghost use Rattle.metadata.specs.Tables.{note_row, link_row, notebook_in};
 ghost use Rattle.metadata.specs.Codes.{judged};
@@ -21,14 +23,14 @@ pub use tables::{
 };
 
 // 11, gpkg_metadata: a note.
-#[derive(Drop)]
+#[derive(Clone, Copy)]
 pub struct NoteRow {
     pub id: u64,
     pub scope: Name,
 }
 
 // 12, gpkg_metadata_reference: a link from a note to what it is about. Flags say whether the row id (1) and the parent (2) are present.
-#[derive(Drop)]
+#[derive(Clone, Copy)]
 pub struct LinkRow {
     pub scope: Name,
     pub table: Text,
@@ -41,7 +43,7 @@ pub struct LinkRow {
 }
 
 // What a link is about.
-#[derive(Drop)]
+#[derive(Clone, Copy)]
 pub enum Scope {
     Geopackage,
     Table,

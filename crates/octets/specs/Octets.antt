@@ -1,5 +1,5 @@
 -- Numbers in octets, little-endian, a part of some octets, and a buffer that is written. Each is total: what would stand past the end is 0, or no octets.
-use Rattle.std.specs.Prelude.{ℕ, ◌+◌, ◌*◌, ◌/◌, ◌%◌, List, [], ◌∷◌, ◌++◌, Bool, cond, length, get_or, take, drop, leb}
+use Rattle.std.specs.Prelude.{ℕ, ◌+◌, ◌*◌, ◌/◌, ◌%◌, List, [], ◌∷◌, ◌++◌, cond, length, get_or, take, drop, leb}
 
 -- the u32 at a place
 unfoldable pub le32 : List ℕ → ℕ → ℕ

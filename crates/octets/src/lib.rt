@@ -1,4 +1,6 @@
 // Numbers and texts in octets.
+#![tactic(auto)]
+
 ghost use Rattle.std.specs.Prelude.{◌≡◌, ◌+◌, ◌≤◌, ◌<◌, min, length};
 ghost use Rattle.std.proofs.lemmas.List.Edits.{sets};
 ghost use Rattle.std.proofs.Math.IntN.{suc_ℤ};
@@ -9,14 +11,14 @@ ghost use Rattle.octets.specs.Texts.{same, text_of, text_at, outside, name_at, s
 ghost use Rattle.octets.specs.TextLaws.{Alike};
 
 // A text that is never NULL: where it starts in the names, and how long it is.
-#[derive(Drop)]
+#[derive(Clone, Copy)]
 pub struct Name {
     pub start: u32,
     pub len: u32,
 }
 
 // A text that may be NULL.
-#[derive(Drop)]
+#[derive(Clone, Copy)]
 pub enum Text {
     Octets { start: u32, len: u32 },
     Null,

@@ -1,4 +1,6 @@
 // The rows of the tables, by value. A number keeps its 64-bit pattern; what a row means is in specs/.
+#![tactic(auto)]
+
 ghost use Rattle.std.specs.Prelude.{◌≡◌};
 ghost use Rattle.pack.specs.Tables.{reference_row, contents_row, set_row, matrix_row, extension_row};
 
@@ -19,7 +21,7 @@ pub use tables::{
 pub use texts::{same_text, text_octets};
 pub use tiles::{tile_at, tile_count};
 
-#[derive(Drop)]
+#[derive(Clone, Copy)]
 pub struct ReferenceRow {
     pub srs_id: u64,
     pub coordsys_id: u64,
@@ -27,7 +29,7 @@ pub struct ReferenceRow {
     pub definition: Name,
 }
 
-#[derive(Drop)]
+#[derive(Clone, Copy)]
 pub struct ContentsRow {
     pub name: Name,
     pub data_type: Name,
@@ -36,14 +38,14 @@ pub struct ContentsRow {
     pub flag: u32,
 }
 
-#[derive(Drop)]
+#[derive(Clone, Copy)]
 pub struct SetRow {
     pub name: Name,
     pub srs_id: u64,
     pub extent: Extent,
 }
 
-#[derive(Drop)]
+#[derive(Clone, Copy)]
 pub struct MatrixRow {
     pub name: Name,
     pub zoom: u64,
@@ -55,7 +57,7 @@ pub struct MatrixRow {
     pub pixel_y: f64,
 }
 
-#[derive(Drop)]
+#[derive(Clone, Copy)]
 pub struct TileRow {
     pub name: Name,
     pub zoom: u64,
@@ -63,7 +65,7 @@ pub struct TileRow {
     pub row: u64,
 }
 
-#[derive(Drop)]
+#[derive(Clone, Copy)]
 pub struct ExtensionRow {
     pub table: Text,
     pub column: Text,
@@ -72,7 +74,7 @@ pub struct ExtensionRow {
 }
 
 // Where tiles stand: in the rows of table 5, or in four columns of signed 64-bit numbers.
-#[derive(Drop)]
+#[derive(Clone, Copy)]
 pub enum Form {
     Rows,
     Columns,

@@ -1,4 +1,6 @@
 // A test: reads listings from standard input, each after its length as a u32, and prints for each what the reader says.
+#![tactic(auto)]
+
 ghost use Rattle.std.specs.Prelude.{◌<◌, ◌≤◌};
 
 use libc::{STDIN_FILENO, STDOUT_FILENO};

@@ -1,4 +1,6 @@
 // Report, verdict and lookup.
+#![tactic(auto)]
+
 mod answers;
 mod buffer;
 mod full;
@@ -15,14 +17,14 @@ pub use rulings::verdict;
 pub use search::{lookup, lookup_columns};
 
 // How many findings there are so far, and the row of the first.
-#[derive(Drop)]
+#[derive(Clone, Copy)]
 pub struct Tally {
     pub total: usize,
     pub row: usize,
 }
 
 // What a report answers: the refusal's number and place, 0 and 0 0 where there is none; how many findings there are, and how many were written.
-#[derive(Drop)]
+#[derive(Clone, Copy)]
 pub struct Summary {
     pub number: u32,
     pub table: u32,

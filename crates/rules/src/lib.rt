@@ -1,4 +1,6 @@
 // The rules: what they are is in specs/; here is what a judgment is, and the constant table of the codes.
+#![tactic(auto)]
+
 ghost use Rattle.std.specs.Prelude.{◌≡◌, ◌<◌};
 ghost use Rattle.rules.specs.Codes.{code_count, code_at, table_at};
 
@@ -6,7 +8,7 @@ ghost use Rattle.rules.specs.Codes.{code_count, code_at, table_at};
 pub const NONE: usize = 4294967295;
 
 // What a rule says of a row: nothing, or a finding with its partner or NONE.
-#[derive(Drop)]
+#[derive(Clone, Copy)]
 pub enum Judgment {
     Clean,
     Hit(usize),

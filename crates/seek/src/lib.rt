@@ -1,4 +1,6 @@
 // Rows that pass a test: one enum of tests and one loop for each table.
+#![tactic(auto)]
+
 use octets::Name;
 use pack::{ContentsRow, ExtensionRow, MatrixRow, TileRow};
 
@@ -18,7 +20,7 @@ pub use sets::{breaks_162, first_set, set_passes};
 pub use tiles::{at_address, first_at, first_of_name, tile_named};
 
 // What a rule asks of a contents row.
-#[derive(Drop)]
+#[derive(Clone, Copy)]
 pub enum ContentTest {
     Named(Name),
     Tiles(Name),
@@ -26,14 +28,14 @@ pub enum ContentTest {
 }
 
 // Of a set row.
-#[derive(Drop)]
+#[derive(Clone, Copy)]
 pub enum SetTest {
     Named(Name),
     Breaks162(ContentsRow),
 }
 
 // Of a matrix row.
-#[derive(Drop)]
+#[derive(Clone, Copy)]
 pub enum MatrixTest {
     Named(Name),
     Level { name: Name, zoom: u64 },
@@ -44,7 +46,7 @@ pub enum MatrixTest {
 }
 
 // Of an extension row.
-#[derive(Drop)]
+#[derive(Clone, Copy)]
 pub enum ExtensionTest {
     Frees(Name),
     Equals622(ExtensionRow),

@@ -1,4 +1,6 @@
 // What a text must look like: dates, extension names, and words in any letter case.
+#![tactic(auto)]
+
 pub mod case;
 mod characters;
 pub mod dates;

@@ -1,4 +1,6 @@
 // A look over a pack before its report: of which codes there is no finding.
+#![tactic(auto)]
+
 ghost use Rattle.std.specs.Prelude.{◌≡◌, map, ◌/◌, length};
 ghost use Rattle.pack.specs.Rows.{Pack};
 ghost use Rattle.pack.specs.Tables.{contents_of, matrices_of, tile_count, tiles_in, pack_in};
@@ -12,7 +14,7 @@ use pack::{CONTENTS, Form, MATRICES, NAMES, SLICE_COUNT, slice_of};
 use rules::Judgment;
 
 // Whether a finding was seen, 0 for no: 351 but for its gates, 431, 441, 561, 571.
-#[derive(Drop)]
+#[derive(Clone, Copy)]
 pub struct Survey {
     pub steps: usize,
     pub names: usize,
@@ -22,7 +24,7 @@ pub struct Survey {
 }
 
 // What is seen of the tiles.
-#[derive(Drop)]
+#[derive(Clone, Copy)]
 struct Places {
     pub levels: usize,
     pub columns: usize,

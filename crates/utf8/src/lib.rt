@@ -1,4 +1,6 @@
 // Well-formed UTF-8: of one text, and of many texts that lie in the same octets.
+#![tactic(auto)]
+
 mod characters;
 mod marks;
 mod steps;

@@ -1,4 +1,6 @@
 // The writer of listings: seven parts, each lent, as one listing in a lent buffer.
+#![tactic(auto)]
+
 ghost use Rattle.std.specs.Prelude.{map};
 ghost use Rattle.listing.specs.Listing.{numbered};
 ghost use Rattle.writer.specs.Writing.{WriteOf};
@@ -9,21 +11,21 @@ mod parts;
 mod refusals;
 
 // The octets written, or why none are.
-#[derive(Drop)]
+#[derive(Clone, Copy)]
 pub enum Written {
     Octets(usize),
     Refused { number: u32, table: u32, row: u32 },
 }
 
 // What may be wrong with a part as a whole: it is not whole rows, or has more of them than its most.
-#[derive(Drop)]
+#[derive(Clone, Copy)]
 pub enum Flaw {
     Ragged,
     Crowded,
 }
 
 // What is counted of a part.
-#[derive(Drop)]
+#[derive(Clone, Copy)]
 pub enum Measure {
     Octets,
     Rows,

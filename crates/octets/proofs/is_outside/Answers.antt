@@ -1,0 +1,5 @@
+-- `octets::is_outside` meets its contract.
+use Rattle.octets.proofs.is_outside.Goals as goal
+
+pub returns : goal.returns
+returns c = simp c.in-Octets.is
