@@ -10,7 +10,7 @@ use lib.ListN.{length, drop, get_or, get_or-eq_default}
 use mir.Syntax.{w32}
 use mir.Val.{Fits}
 use Rattle.octets.specs.Octets.{part}
-use Rattle.utf8.specs.Utf8.{in_range, fits, size, well_formed}
+use Rattle.utf8.specs.Utf8.{in_range, size, well_formed}
 use Rattle.utf8.specs.CharacterLaws.{continuation, range_below, one, two, none-low, none-high, size-at}
 use Rattle.utf8.specs.CoverLaws.{Stretch, Ends, stretch_join, ends-past}
 use Rattle.utf8.specs.StepLaws.{second, three_law, four_law, Step, Walking}
