@@ -1,6 +1,6 @@
 -- The formats of a listing, by their numbers: what the header has, and what each table has. This is all in which they differ, but for reason 8 (Refusals).
 -- Tables are numbered from 1, rows from 0; there is no table 0, and past the last table stand zeros.
-use Rattle.std.specs.Prelude.{ℕ, ◌+◌, List, [], ◌∷◌, get_or}
+use Rattle.std.specs.Prelude.{ℕ, ◌+◌, [], ◌∷◌, get_or}
 use Rattle.listing.specs.declared.Format.{Format}
 use Rattle.listing.specs.declared.Format.TheVariants.{Edition1, Metadata}
 
