@@ -1,6 +1,6 @@
 -- The 36 codes with their tables, and the rule of each.
-use Rattle.std.specs.Prelude.{ℕ, List, [], ◌∷◌, Bool, cond, eqb, get_or, length, drop, pos, negsuc}
-use Rattle.pack.specs.Rows.{Rows, Pack}
+use Rattle.std.specs.Prelude.{ℕ, List, [], ◌∷◌, cond, eqb, get_or, drop, pos, negsuc}
+use Rattle.pack.specs.Rows.{Pack}
 use Rattle.rules.specs.References.{of101, of111, of112, of113, lacks_id}
 use Rattle.rules.specs.Contents.{of131, of151, of161, of162, of401, none171}
 use Rattle.rules.specs.Sets.{of391, of392, of411}

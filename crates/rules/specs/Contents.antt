@@ -1,5 +1,5 @@
 -- The rules on contents (table 2): 131, 151, 161, 162, 171, 401; and tiles names.
-use Rattle.std.specs.Prelude.{ℕ, List, Bool, true, false, cond, not, ◌&&◌, ◌||◌, ℤ}
+use Rattle.std.specs.Prelude.{ℕ, List, Bool, false, cond, not, ◌&&◌, ◌||◌, ℤ}
 use Rattle.octets.specs.Numbers.{eq_z}
 use Rattle.octets.specs.Texts.{Nullable, There, Null, same}
 use Rattle.spelling.specs.Dates.{is_date}

@@ -1,5 +1,5 @@
 -- The rules on matrix sets (table 3): 391, 392, 411.
-use Rattle.std.specs.Prelude.{ℕ, Bool, not}
+use Rattle.std.specs.Prelude.{ℕ, not}
 use Rattle.pack.specs.Rows.{Rows, Reference, Content, MatrixSet}
 use Rattle.rules.specs.Judgments.{fault_if, lowest, unless_some}
 use Rattle.rules.specs.References.{has_id}
