@@ -1,18 +1,16 @@
 -- The laws of the reasons of columns: each is given exactly when its fault is there and no earlier one is, and a refused listing is refused as by itself.
 use Rattle.std.specs.Prelude.{ℕ, ◌*◌, ◌^◌, ◌<◌, ◌≤◌, ◌≡◌, List, [], ◌∷◌, ◌++◌, Bool, true, false, ◌↔◌, length}
 use Rattle.std.proofs.Math.Path.{refl}
-use Rattle.std.proofs.Common.{sym, ap, ◌∙◌, le-ltb}
-use Rattle.std.proofs.lemmas.Bool.{false≢true}
+use Rattle.std.proofs.Common.{◌∙◌, le-ltb}
 use Rattle.octets.specs.Octets.{le64}
 use Rattle.octets.specs.Texts.{outside}
 use Rattle.listing.specs.Listing.{table, rows, layout}
-use Rattle.listing.specs.Refusals.{Reason, header_reasons, row_reasons, decide_by, decide, checked, outcome, number_of, table_of, row_of, is_accepted}
-use Rattle.listing.specs.ReasonLaws.{number_at, numbers_of, answer_by, Free, Given, free-left, free-right, decide-both, decide_stop, decide-none, decide_fault, decide-clean, number-exactly, good-exactly}
+use Rattle.listing.specs.Refusals.{Reason, header_reasons, row_reasons, decide_by, decide, checked, outcome, number_of, is_accepted}
+use Rattle.listing.specs.ReasonLaws.{number_at, numbers_of, answer_by, Free, Given, free-left, free-right, decide-both, decide_stop, decide-none, decide_fault, number-exactly, good-exactly}
 use Rattle.listing.specs.RefusalLaws.{reasons, accepted-exactly}
 use Rattle.listing.specs.FurtherLaws.{listing_said, further_refused, further_rest, further_exactly, further_place, further_accepted, further_listing}
 use Rattle.listing.specs.declared.Checked.{Checked}
 use Rattle.listing.specs.declared.Checked.TheVariants.{Clean, Fault}
-use Rattle.listing.specs.declared.Outcome.{Outcome}
 use Rattle.listing.specs.declared.Outcome.TheVariants.{Accepted, Refused}
 use Rattle.columns.specs.Refusals.{is_short, short_reason, entry_text, faulty_entry, entry_reasons, column_reasons, column_outcome, fill_reasons, fill_answer}
 

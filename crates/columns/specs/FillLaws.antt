@@ -1,6 +1,6 @@
 -- The laws of the fill: an entry is two words of a tile row, and a column is filled entry by entry.
 use Prim.Native.Nat.{ℕ, zero, suc, ◌+◌, ◌*◌, ◌/◌, ◌%◌, ◌^◌, ◌<◌, ◌≤◌}
-use Rattle.std.specs.Prelude.{◌≡◌, refl, Bool, true, false, ◌||◌, ltb, length}
+use Rattle.std.specs.Prelude.{◌≡◌, refl, Bool, true, false, ◌||◌, length}
 use Rattle.std.proofs.Math.Path.{sym, ap}
 use Rattle.std.proofs.Common.{◌∙◌, le_antisymm, le-div_iff_mul-le, lt-ltb}
 use mathlib.Core.List.{List, [], ◌∷◌, ◌++◌}

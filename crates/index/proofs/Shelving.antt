@@ -11,7 +11,6 @@ use borrow.Author.Tests.{eq-eqb, eqb-true, ltb-true, ltb-false}
 use lib.Dec.{eqb, ltb}
 use lib.ListN.{length}
 use Rattle.octets.specs.Search.{first}
-use Rattle.octets.specs.SearchLaws.{Lowest}
 use Rattle.index.specs.Chains.{row_range, is_entry, newest, marked}
 use Rattle.index.specs.ChainLaws.{by_test, lowest-is, entry_new, newest-le, newest-newest, entry-below, chain-hash, marked-zero, marked-none, marked_row, marked-print}
 use Rattle.index.specs.Work.{mix_range, word_at, place_of, print_of, Indexed, Keyed}

@@ -1,6 +1,6 @@
 -- The laws of words that are written, and of the index that they make.
 use Prim.Native.Nat.{ℕ, suc, ◌+◌, ◌-◌, ◌*◌, ◌/◌, ◌%◌, ◌<◌, ◌≤◌}
-use mathlib.Core.Path.{◌≡◌, sym, ◌∙◌, subst}
+use mathlib.Core.Path.{◌≡◌, ◌∙◌}
 use mathlib.Core.List.{List}
 use mathlib.Core.Bool.{Bool, true, false}
 use native.Mathlib.Omega.{arith}
@@ -11,7 +11,7 @@ use lib.ListN.{length, get_or, set, length-set}
 use lib.Seq.{get_or-set_same, get_or-set_other}
 use Rattle.octets.specs.Octets.{le32}
 use Rattle.octets.specs.OctetLaws.{word_number}
-use Rattle.index.specs.Chains.{row_range, print_range, is_entry, newest, marked, Index}
+use Rattle.index.specs.Chains.{row_range, print_range, is_entry, newest, marked}
 use Rattle.index.specs.ChainLaws.{by_test, newest-le, index-none, index_old, index_new, marked-small}
 use Rattle.index.specs.Work.{mix_range, word_at, put_word, print_of, pushed, Indexed, spare_heads, heads_for, Ready}
 

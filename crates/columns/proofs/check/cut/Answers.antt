@@ -1,0 +1,10 @@
+-- `columns::check::cut` meets its contract.
+use Rattle.columns.proofs.Laws.{octets-fit, cut_columns}
+use borrow.Author.Rules.{rules}
+use Rattle.columns.proofs.check.cut.Goals as goal
+
+pub overflow_mul-octets : goal.overflow_mul-octets
+overflow_mul-octets c = search (octets-fit, rules)
+
+pub returns : goal.returns
+returns c = search (cut_columns, rules)
