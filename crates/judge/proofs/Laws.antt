@@ -5,7 +5,6 @@ use mathlib.Core.Bool.{Bool, true, false, cond, not}
 use mathlib.Core.List.{List, []}
 use borrow.Author.Rules.{rules}
 use borrow.Author.Tests.{lt-ltb, le-ltb}
-use lib.Dec.{ltb}
 use Rattle.octets.specs.Search.{first, any}
 use Rattle.octets.specs.Texts.{Nullable, There, Null}
 use Rattle.spelling.specs.ExtensionNames.{inside, is_extension_name}
