@@ -1,59 +1,77 @@
 // A test: reads listings from standard input, each after its length as a u32, and prints for each what the reader says.
 #![tactic(auto)]
 
-ghost use Rattle.std.specs.Prelude.{◌<◌, ◌≤◌};
+ghost use Rattle.std.specs.Prelude.{◌<◌, ◌≤◌, length, IfOk};
 
-use libc::{STDIN_FILENO, STDOUT_FILENO};
 use listing::Outcome;
+use std::io;
+use std::io::Read;
 
-fn say(text: &[u8]) {
-    io::write_all(STDOUT_FILENO, text);
+fn say(rt: &impl Print, text: &[u8]) -> io::Result<()> {
+    rt.write_all(text)
 }
 
-fn say_number(n: u32) {
-    say(b" ");
-    io::print_decimal(STDOUT_FILENO, n as u64);
+fn say_number(rt: &impl Print, n: u32) -> io::Result<()> {
+    say(rt, b" ")?;
+    rt.print(n)
 }
 
-fn say_outcome(outcome: Outcome) {
+fn say_outcome(rt: &impl Print, outcome: Outcome) -> io::Result<()> {
     match outcome {
-        Outcome::Accepted(_) => say(b"accepted\n"),
+        Outcome::Accepted(_) => say(rt, b"accepted\n"),
         Outcome::Refused { number, table, row } => {
-            say(b"refused");
-            say_number(number);
-            say_number(table);
-            say_number(row);
-            say(b"\n");
+            say(rt, b"refused")?;
+            say_number(rt, number)?;
+            say_number(rt, table)?;
+            say_number(rt, row)?;
+            say(rt, b"\n")
         }
     }
 }
 
 // The listing whose length stands at a place; answers the place after it, or the end where there is none whole.
-fn read_one(input: &[u8], at: usize, end: usize) -> usize
+fn read_one(rt: &impl Print, input: &[u8], at: usize, end: usize) -> io::Result<usize>
     requires { at < end }
-    ensures { (at < result) × (result ≤ end) }
+    ensures { IfOk result (λ next. (at < next) × (next ≤ end)) }
 {
     if end - at < 4 {
-        return end;
+        return Ok(end);
     }
     let start = at + 4;
     let size = octets::u32_at(input, at) as usize;
     if end - start < size {
-        return end;
+        return Ok(end);
     }
-    say_outcome(listing::accept(octets::part_of(input, start, size)));
-    start + size
+    say_outcome(rt, listing::accept(octets::part_of(input, start, size)))?;
+    Ok(start + size)
 }
 
-fn read_all(input: &mut [u8]) {
-    let end = io::read_full(STDIN_FILENO, input);
+// How many octets of the input are now in the buffer. A pipe gives them in pieces, so one read is not enough.
+fn read_input(rt: &impl Input, input: &mut [u8]) -> io::Result<usize>
+    ensures { IfOk result (λ n. n ≤ length input.new) }
+{
+    let mut reader = rt.reader();
+    let mut done = 0;
+    while done < input.len() {
+        let n = reader.read(&mut input[done..])?;
+        if n == 0 {
+            break;
+        }
+        done += n;
+    }
+    Ok(done)
+}
+
+fn read_all(rt: &(impl Input + Print), input: &mut [u8]) -> io::Result<()> {
+    let end = read_input(rt, input)?;
     let mut at = 0;
     while at < end {
-        at = read_one(input, at, end);
+        at = read_one(rt, input, at, end)?;
     }
+    Ok(())
 }
 
-fn main() {
+fn main(rt: HostRuntime) -> io::Result<()> {
     let mut input = [0u8; 262144];
-    read_all(&mut input);
+    read_all(&rt, &mut input)
 }
