@@ -1,7 +1,7 @@
 -- What a survey says of the codes: where it has seen nothing, a row of theirs is clean.
-use Rattle.std.specs.Prelude.{ℕ, ◌<◌, ◌≡◌, List, Bool, not, ◌&&◌, eqb}
+use Rattle.std.specs.Prelude.{ℕ, ◌<◌, ◌≡◌, Bool, eqb}
 use Rattle.std.proofs.Math.Path.{refl}
-use Rattle.std.proofs.Common.{sym, ap, ◌∙◌, arith}
+use Rattle.std.proofs.Common.{sym, ap, arith}
 use Rattle.std.proofs.Math.Bool.{true, false, cond, and-eq-true_iff}
 use Rattle.std.proofs.lemmas.Bool.{false≢true}
 use Rattle.std.proofs.Math.Dec.{ltb}
@@ -11,8 +11,7 @@ use Rattle.octets.specs.Search.{first, any}
 use Rattle.octets.specs.SearchLaws.{first-lowest}
 use Rattle.octets.specs.TextLaws.{same_equal}
 use Rattle.pack.specs.Rows.{Rows, Content, Matrix, Tile, Extension, Pack, rows_in}
-use Rattle.rules.specs.Judgments.{none, some, fault_if, lowest}
-use Rattle.rules.specs.Contents.{is_tiles_name}
+use Rattle.rules.specs.Judgments.{none, some, lowest}
 use Rattle.rules.specs.Matrices.{matrix_named, at_level, tile_named, frees, breaks351, of351, of431}
 use Rattle.rules.specs.Tiles.{of341, of441, of551, of561, of571}
 use Rattle.rules.specs.Codes.{judged}

@@ -82,9 +82,9 @@ fn see_tiles(
     names: &[u8],
     work: &mut [u8],
 ) -> Places
-    ensures quiet { Quiet (level_at (matrices_of matrices.now names.now) (tiles_in form (map (λ x. x.now) tables.entry) names.now)) (tile_count form (map (λ x. x.now) tables.entry)) result.levels }
-    ensures quiet_2 { Quiet (placed_at off561 (matrices_of matrices.now names.now) (tiles_in form (map (λ x. x.now) tables.entry) names.now)) (tile_count form (map (λ x. x.now) tables.entry)) result.columns }
-    ensures quiet_3 { Quiet (placed_at off571 (matrices_of matrices.now names.now) (tiles_in form (map (λ x. x.now) tables.entry) names.now)) (tile_count form (map (λ x. x.now) tables.entry)) result.rows }
+    ensures levels_quiet { Quiet (level_at (matrices_of matrices.now names.now) (tiles_in form (map (λ x. x.now) tables.entry) names.now)) (tile_count form (map (λ x. x.now) tables.entry)) result.levels }
+    ensures columns_quiet { Quiet (placed_at off561 (matrices_of matrices.now names.now) (tiles_in form (map (λ x. x.now) tables.entry) names.now)) (tile_count form (map (λ x. x.now) tables.entry)) result.columns }
+    ensures rows_quiet { Quiet (placed_at off571 (matrices_of matrices.now names.now) (tiles_in form (map (λ x. x.now) tables.entry) names.now)) (tile_count form (map (λ x. x.now) tables.entry)) result.rows }
 {
     let n = pack::tile_count(form, tables);
     let heads = index::index_all(matrices, names, work, Kind::Level);
