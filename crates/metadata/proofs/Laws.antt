@@ -10,7 +10,7 @@ use Rattle.octets.specs.Search.{first, any}
 use Rattle.octets.specs.SearchLaws.{none-at}
 use Rattle.octets.specs.Octets.{part}
 use Rattle.octets.specs.Slices.{nth}
-use Rattle.octets.specs.Texts.{Nullable, There, Null, reads}
+use Rattle.octets.specs.Texts.{There, Null, reads}
 use Rattle.octets.specs.declared.Text.{Text}
 use Rattle.octets.specs.declared.Text.TheVariants as text
 use Rattle.pack.specs.Tables.{contents_of}

@@ -1,9 +1,8 @@
 -- What an accepted sibling listing is: header and tables follow each other without gaps, each table is whole and no longer than its most, and no row is at fault.
-use Rattle.std.specs.Prelude.{ℕ, ◌+◌, ◌*◌, ◌<◌, ◌≤◌, ◌≡◌, refl, List, ◌++◌, Bool, eqb, length, take}
-use Rattle.std.proofs.Common.{sym, ap, ◌∙◌, subst, append_assoc}
+use Rattle.std.specs.Prelude.{ℕ, ◌*◌, ◌<◌, ◌≤◌, ◌≡◌, List, ◌++◌, Bool, eqb, length, take}
+use Rattle.std.proofs.Common.{sym, ◌∙◌, append_assoc}
 use Rattle.std.proofs.Math.Bool.{true, false, cond}
 use native.Mathlib.Omega.{arith}
-use Rattle.octets.specs.Gather.{gather}
 use Rattle.octets.specs.Slices.{nth}
 use Rattle.octets.specs.Texts.{outside}
 use Rattle.listing.specs.Formats.{metadata_row, metadata_most}
@@ -13,7 +12,7 @@ use Rattle.listing.specs.Refusals.{ill, faulty_row, bad_link, reasons_in, is_acc
 use Rattle.listing.specs.ReasonLaws.{Free}
 use Rattle.listing.specs.FormatLaws.{count-most_in, table_length_in, table-rows_in, header_and_tables_in, no_bad_row_in, no_ill_row_in, none-flagged}
 use Rattle.listing.specs.declared.Format.TheVariants.{Metadata}
-use Rattle.metadata.specs.Rows.{Notebook, rows_of}
+use Rattle.metadata.specs.Rows.{rows_of}
 use Rattle.metadata.specs.Tables.{tables_for, notebook_of}
 use Rattle.metadata.specs.Refusals.{metadata_outcome}
 use Rattle.metadata.specs.RefusalLaws.{accepted_metadata}

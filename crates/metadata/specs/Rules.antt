@@ -1,5 +1,5 @@
 -- The rules of 2026-05, "by Req 94 and 96 to 102" of 000, Annex F.8. "Codes are the number times ten plus five, partner none".
-use Rattle.std.specs.Prelude.{ℕ, List, [], ◌∷◌, Bool, true, false, cond, not, ◌||◌, ℤ, length}
+use Rattle.std.specs.Prelude.{ℕ, List, [], ◌∷◌, Bool, true, false, cond, not, ℤ}
 use Rattle.octets.specs.Numbers.{eq_z}
 use Rattle.octets.specs.Search.{any}
 use Rattle.octets.specs.Slices.{nth}
@@ -7,7 +7,7 @@ use Rattle.octets.specs.Texts.{Nullable, There, Null, same}
 use Rattle.spelling.specs.Quoted.{quoted}
 use Rattle.spelling.specs.Dates.{is_date}
 use Rattle.pack.specs.Rows.{Rows, Content}
-use Rattle.rules.specs.Judgments.{none, fault_if, some, unless_some}
+use Rattle.rules.specs.Judgments.{none, fault_if, unless_some}
 use Rattle.rules.specs.Contents.{content_named}
 use Rattle.rules.specs.declared.Judgment.{Judgment}
 use Rattle.rules.specs.declared.Judgment.TheVariants.{Clean, Hit}

@@ -3,7 +3,7 @@ use Rattle.std.specs.Prelude.{ℕ, ◌+◌, ◌*◌, ◌/◌, ◌%◌, List, [],
 use Rattle.octets.specs.Octets.{le32, le64}
 use Rattle.octets.specs.Numbers.{signed}
 use Rattle.octets.specs.Slices.{nth}
-use Rattle.octets.specs.Texts.{Nullable, There, Null, text_at, name_at, spell, reads}
+use Rattle.octets.specs.Texts.{There, Null, text_at, name_at, spell, reads}
 use Rattle.octets.specs.declared.Text.TheVariants as text
 use Rattle.listing.specs.Listing.{table_in, table}
 use Rattle.listing.specs.declared.Format.TheVariants.{Metadata}

@@ -1,5 +1,5 @@
 -- Both sides of each line of 2026-05: what the rules say of notes and links that are written out, and what a sibling listing's rows are refused for, as two tables with a single statement each.
-use Rattle.std.specs.Prelude.{ℕ, zero, suc, ◌≡◌, refl, List, [], ◌∷◌, ◌++◌, map, cond, eqb, ℤ, pos}
+use Rattle.std.specs.Prelude.{ℕ, suc, ◌≡◌, refl, List, [], ◌∷◌, ◌++◌, map, cond, eqb, ℤ, pos}
 use Rattle.octets.specs.Octets.{le32, le64, part}
 use Rattle.octets.specs.Search.{first, any}
 use Rattle.octets.specs.Slices.{nth}

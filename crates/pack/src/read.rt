@@ -102,10 +102,10 @@ fn name_of(first: u64) -> Name
 
 // The tile whose four numbers stand at one place of four columns.
 pub fn tile_entry(firsts: &[u8], zooms: &[u8], columns: &[u8], rows: &[u8], at: usize) -> TileRow
-    requires at_in_bounds { at + 8 ≤ length firsts.now }
-    requires at_in_bounds_2 { at + 8 ≤ length zooms.now }
-    requires at_in_bounds_3 { at + 8 ≤ length columns.now }
-    requires at_in_bounds_4 { at + 8 ≤ length rows.now }
+    requires first_there { at + 8 ≤ length firsts.now }
+    requires zoom_there { at + 8 ≤ length zooms.now }
+    requires column_there { at + 8 ≤ length columns.now }
+    requires row_there { at + 8 ≤ length rows.now }
     ensures { result ≡ entry_at firsts.now zooms.now columns.now rows.now at }
 {
     TileRow {

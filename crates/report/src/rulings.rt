@@ -85,7 +85,7 @@ fn rule(form: Form, tables: [&[u8]; SLICE_COUNT], work: &mut [u8], code: u32, ta
 }
 
 fn rule_listing(listing: &[u8], work: &mut [u8], code: u32, table: u32) -> Ruling
-    requires listing_value { is_accepted (outcome listing.now) ≡ true }
+    requires accepted { is_accepted (outcome listing.now) ≡ true }
     requires table_value { table ≡ table_of code }
     ensures { result ≡ ruled (pack_of listing.now) code }
 {

@@ -1,0 +1,15 @@
+-- `metadata::judging/first_id` meets its contract.
+use Rattle.octets.specs.SearchLaws.{cursor_start, cursor_more, seek_hit, seek-end}
+use Rattle.metadata.proofs.judging.first_id.Goals as goal
+
+pub loop-at-init : goal.loop-at-init
+loop-at-init c = search cursor_start
+
+pub returns-then-has_id : goal.returns-then-has_id
+returns-then-has_id c = search (rw c.note_at.ensures at c.has_id.ensures, seek_hit)
+
+pub loop-at-preserved : goal.loop-at-preserved
+loop-at-preserved c = search (rw c.note_at.ensures at c.has_id.ensures, cursor_more)
+
+pub returns : goal.returns
+returns c = search seek-end
