@@ -1,13 +1,12 @@
 -- What report, verdict and lookup answer of a listing.
-use Rattle.std.specs.Prelude.{ℕ, List, [], ◌∷◌, Bool, true, false, cond, ◌&&◌, ◌||◌, eqb, ltb, ℤ, length}
-use Rattle.octets.specs.Search.{first}
+use Rattle.std.specs.Prelude.{ℕ, List, [], ◌∷◌, Bool, true, false, cond, ◌&&◌, ◌||◌, eqb, ltb, ℤ}
 use Rattle.spelling.specs.Words.{tiles}
 use Rattle.listing.specs.Refusals.{outcome}
 use Rattle.listing.specs.declared.Outcome.{Outcome}
 use Rattle.listing.specs.declared.Outcome.TheVariants as reading
 use Rattle.pack.specs.Rows.{Rows, Content, Tile, Pack, rows_in}
 use Rattle.pack.specs.Tables.{pack_of}
-use Rattle.rules.specs.Judgments.{none, first_row}
+use Rattle.rules.specs.Judgments.{first_row}
 use Rattle.rules.specs.Codes.{table_of}
 use Rattle.rules.specs.Contents.{of_type}
 use Rattle.rules.specs.Tiles.{at_address}

@@ -1,5 +1,5 @@
 -- The findings of a pack: "by code, then row, none last".
-use Rattle.std.specs.Prelude.{ℕ, ◌<◌, ◌≡◌, ◌⊎◌, List, [], ◌∷◌, ◌++◌, Bool, cond, eqb}
+use Rattle.std.specs.Prelude.{ℕ, ◌<◌, ◌≡◌, ◌⊎◌, List, [], ◌∷◌, ◌++◌, cond, eqb}
 use Rattle.octets.specs.Gather.{gather}
 use Rattle.pack.specs.Rows.{Pack, rows_in}
 use Rattle.rules.specs.Judgments.{none}

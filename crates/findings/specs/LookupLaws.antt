@@ -1,7 +1,7 @@
 -- "Where no doubled-address finding stands at an address, what a lookup returns there is the only tile there."
-use Rattle.std.specs.Prelude.{ℕ, ◌<◌, ◌≤◌, ◌≡◌, Bool, false, cond, ◌&&◌, List, ◌∷◌, eqb, ltb, ℤ}
+use Rattle.std.specs.Prelude.{ℕ, ◌<◌, ◌≤◌, ◌≡◌, Bool, false, cond, ◌&&◌, List, ltb, ℤ}
 use Rattle.std.proofs.Math.Path.{refl, sym, subst}
-use Rattle.std.proofs.Common.{ap, ◌∙◌, arith, eq-or-lt_of_le, lt_of_not-le, lt-ltb, ltb-true}
+use Rattle.std.proofs.Common.{◌∙◌, arith, eq-or-lt_of_le, lt_of_not-le, ltb-true}
 use Rattle.std.proofs.Math.Bool.{true, and-eq-true_iff}
 use Rattle.std.proofs.lemmas.Bool.{false≢true}
 use Rattle.std.proofs.Math.Logic.{⊎_elim}
@@ -13,19 +13,16 @@ use Rattle.octets.specs.Search.{first, any}
 use Rattle.octets.specs.SearchLaws.{first-lowest, any_some}
 use Rattle.octets.specs.Texts.{same}
 use Rattle.octets.specs.TextLaws.{same_equal}
-use Rattle.listing.specs.Refusals.{outcome}
-use Rattle.pack.specs.Rows.{Rows, Tile, Pack, rows_in}
-use Rattle.pack.specs.Tables.{pack_of}
+use Rattle.pack.specs.Rows.{Tile, Pack, rows_in}
 use Rattle.rules.specs.Judgments.{partner, first_row}
 use Rattle.rules.specs.Tiles.{at_address, of541}
-use Rattle.rules.specs.Codes.{code_count, code_at, table_at, judged, judged_none}
+use Rattle.rules.specs.Codes.{code_count, code_at, table_at, judged}
 use Rattle.rules.specs.declared.Judgment.{Judgment}
-use Rattle.rules.specs.declared.Judgment.TheVariants.{Clean, Hit}
-use Rattle.findings.specs.Findings.{Finding, found, at_row, at_none, of_code, of_place, findings, Every}
+use Rattle.rules.specs.declared.Judgment.TheVariants.{Hit}
+use Rattle.findings.specs.Findings.{Finding, found, at_row, of_code, of_place, findings, Every}
 use Rattle.findings.specs.ListLaws.{every-left, every-part}
 use Rattle.findings.specs.Answers.{located_row, tile_at}
-use Rattle.findings.specs.declared.Located.{Located}
-use Rattle.findings.specs.declared.Located.TheVariants.{At, Nowhere, Refused}
+use Rattle.findings.specs.declared.Located.TheVariants.{At, Nowhere}
 
 -- two tiles at one address: what is at the address of the one is at that of the other
 both : (a b : Bool) → (a && b) ≡ true → (a ≡ true) × (b ≡ true)

@@ -1,13 +1,13 @@
 -- "Demand 3 holds for this report on its own": the report on metadata holds all findings of its eight codes, each once, by code then row, and no other; and each number is its word.
 use Rattle.std.specs.Prelude.{ℕ, ◌<◌, ◌≤◌, ◌≡◌, Bool, cond, ◌⊎◌, ◌↔◌, ℤ, length}
 use Rattle.std.proofs.Math.Path.{refl, subst}
-use Rattle.std.proofs.Common.{sym, ap, ◌∙◌, true≢false, inl, inr, arith}
+use Rattle.std.proofs.Common.{sym, inl, inr, arith}
 use Rattle.std.proofs.Math.Bool.{true, false}
 use Rattle.std.proofs.lemmas.Bool.{false≢true}
 use Rattle.std.proofs.Math.Logic.{⊎_elim}
 use mathlib.Core.List.{List, [], ◌∷◌}
 use Rattle.listing.specs.Listing.{layout}
-use Rattle.listing.specs.Refusals.{reasons_in, decide, outcome, outcome_with, number_of, is_accepted}
+use Rattle.listing.specs.Refusals.{reasons_in, decide, outcome, outcome_with, is_accepted}
 use Rattle.listing.specs.ReasonLaws.{Free, Given, given_or_none, decide_stop, decide-none}
 use Rattle.listing.specs.FurtherLaws.{further_refused, further_rest}
 use Rattle.listing.specs.declared.Format.TheVariants.{Metadata}

@@ -5,7 +5,7 @@ use Rattle.std.proofs.Common.{sym, ◌∙◌, inl, inr, ⊎_elim, eq-eqb, ne_eqb
 use Rattle.std.proofs.Math.Bool.{true, false, cond}
 use Rattle.std.proofs.lemmas.Bool.{false≢true, eqb-false}
 use mathlib.Core.List.{List, [], ◌∷◌}
-use Rattle.std.proofs.Math.Logic.{Iff·symm}
+use Rattle.std.proofs.Math.Logic.Iff
 use native.Mathlib.Omega.{arith}
 use Rattle.std.proofs.Math.Dec.{eqb}
 use Rattle.listing.specs.Refusals.{outcome, number_of, is_accepted}
@@ -206,7 +206,7 @@ module _ (s : List ℕ) (c : ℕ) where
       to e = lowest-map (λ f. Stands f (reported s)) (Asked s) c i (reported-exactly s) ((verdict_fail i).0 e)
 
       back : LowestRow (Asked s) c i → verdict_of s c ≡ Fail i
-      back h = (verdict_fail i).1 (lowest-map (Asked s) (λ f. Stands f (reported s)) c i (λ f. Iff·symm (reported-exactly s f)) h)
+      back h = (verdict_fail i).1 (lowest-map (Asked s) (λ f. Stands f (reported s)) c i (λ f. Iff.symm (reported-exactly s f)) h)
 
   -- "pass otherwise": the code has no finding, and can be tested
   pub verdict_pass : (verdict_of s c ≡ Pass)

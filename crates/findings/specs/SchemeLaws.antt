@@ -44,7 +44,9 @@ found_stands : (f : Finding) (v : Judgment) → v ≡ Hit f.partner → Stands f
 found_stands f v e = subst (λ (w : Judgment). Stands f (found f.code f.row w)) (sym e) (inl refl)
 
 found-only : (f : Finding) (c i : ℕ) (v : Judgment) → Stands f (found c i v) → (f.code ≡ c) × (f.row ≡ i) × (v ≡ Hit f.partner)
+found-only f c i Clean h = elim h [ ]
 found-only f c i (Hit j) (inl e) = (ap (λ (g : Finding). g.code) e, ap (λ (g : Finding). g.row) e, sym (ap (λ (g : Finding). Hit g.partner) e))
+found-only f c i (Hit j) (inr h) = elim h [ ]
 
 -- ---- what the judgments of rows give: in order
 -- of a code, and of a row below n

@@ -8,6 +8,7 @@ use Rattle.findings.specs.Demands.{Stands, Once}
 
 module _ (f : Finding) where
   pub stands_left : (xs ys : List Finding) → Stands f xs → Stands f (xs ++ ys)
+  stands_left [] ys h = elim h [ ]
   stands_left (x ∷ xs) ys (inl e) = inl e
   stands_left (x ∷ xs) ys (inr h) = inr (stands_left xs ys h)
 
@@ -27,6 +28,7 @@ module _ (f : Finding) where
       (λ (m : k < n). stands_left (gather n g) (g n) (stands_gathered g n k m h)) (eq-or-lt_of_le (le_of_suc-le-suc l))
 
   pub stands_some : (g : ℕ → List Finding) (n : ℕ) → Stands f (gather n g) → (k : ℕ) × (k < n) × Stands f (g k)
+  stands_some g zero h = elim h [ ]
   stands_some g (suc n) h =
       ⊎_elim (λ (l : Stands f (gather n g)). let q = stands_some g n l in (q.0, omega (arith, q.1), q.2)) (λ (r : Stands f (g n)). (n, omega arith, r)) (stands_either (gather n g) (g n) h)
 
@@ -35,6 +37,7 @@ pub every_stands : (P : Finding → Type 0) (fs : List Finding) → Every P fs �
 every_stands P fs = (each fs, all fs)
   where
     each : (fs : List Finding) → Every P fs → (f : Finding) → Stands f fs → P f
+    each [] a f h = elim h [ ]
     each (g ∷ fs) a f (inl e) = subst P (sym e) a.0
     each (g ∷ fs) a f (inr h) = each fs a.1 f h
 
@@ -54,6 +57,7 @@ ordered-once (f ∷ fs) o = (λ h. never ((every_stands (Before f) fs).0 o.0 f h
 -- ---- those of a list that have a code
 module _ (c : ℕ) where
   pub only_stands : (f : Finding) (fs : List Finding) → Stands f fs → f.code ≡ c → Stands f (only c fs)
+  only_stands f [] h e = elim h [ ]
   only_stands f (g ∷ fs) h e = by (eqb g.code c) refl h (λ k. only_stands f fs k e)
     where
       by : (b : Bool) → eqb g.code c ≡ b → (f ≡ g) ⊎ Stands f fs → (Stands f fs → Stands f (only c fs)) → Stands f (cond b (g ∷ only c fs) (only c fs))
@@ -63,6 +67,7 @@ module _ (c : ℕ) where
       by false q (inr k) rest = rest k
 
   pub stands_only : (f : Finding) (fs : List Finding) → Stands f (only c fs) → Stands f fs × (f.code ≡ c)
+  stands_only f [] h = elim h [ ]
   stands_only f (g ∷ fs) h = by (eqb g.code c) refl h (λ k. stands_only f fs k)
     where
       by : (b : Bool) → eqb g.code c ≡ b → Stands f (cond b (g ∷ only c fs) (only c fs)) → (Stands f (only c fs) → Stands f fs × (f.code ≡ c)) → ((f ≡ g) ⊎ Stands f fs) × (f.code ≡ c)

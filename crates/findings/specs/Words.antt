@@ -1,5 +1,5 @@
 -- The words of the answers, as octets in the caller's buffers.
-use Rattle.std.specs.Prelude.{ℕ, ◌+◌, ◌*◌, ◌/◌, min, List, [], ◌∷◌, ◌++◌, Bool, cond, ltb, length, take, drop}
+use Rattle.std.specs.Prelude.{ℕ, ◌*◌, ◌/◌, min, List, [], ◌∷◌, ◌++◌, Bool, cond, ltb, length, take, drop}
 use Rattle.octets.specs.Octets.{word}
 use Rattle.listing.specs.Refusals.{outcome, number_of, table_of, row_of}
 use Rattle.listing.specs.declared.Outcome.{Outcome}
