@@ -1,15 +1,13 @@
 -- Words of an answer, one after the other.
 use Prim.Native.Nat.{ℕ, suc, ◌+◌}
-use mathlib.Core.Path.{◌≡◌, refl, sym, ap, ◌∙◌}
+use mathlib.Core.Path.{◌≡◌}
 use mathlib.Core.List.{List, [], ◌∷◌}
 use native.Mathlib.Omega.{arith}
 use lib.Seq.{sets}
 use Rattle.octets.specs.Octets.{word}
 use Rattle.findings.specs.Words.{octets_of, ruling_words, located_words}
 use Rattle.findings.specs.declared.Ruling.{Ruling}
-use Rattle.findings.specs.declared.Ruling.TheVariants as ruling
 use Rattle.findings.specs.declared.Located.{Located}
-use Rattle.findings.specs.declared.Located.TheVariants as look
 
 pub three : (b b₁ b₂ b₃ : List ℕ) (at x y z : ℕ) → b₁ ≡ sets b at (word x) → b₂ ≡ sets b₁ (at + 4) (word y) → b₃ ≡ sets b₂ (at + 8) (word z)
     → b₃ ≡ sets b at (octets_of (x ∷ y ∷ z ∷ []))

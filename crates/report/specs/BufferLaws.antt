@@ -1,14 +1,13 @@
 -- The laws of adding findings, and what the buffer holds in the end: the octets of those that fit, then what it held.
-use Rattle.std.specs.Prelude.{ℕ, zero, suc, ◌+◌, ◌*◌, ◌-◌, ◌<◌, ◌≤◌, min, ◌≡◌, refl, Bool, true, false, cond, List, [], ◌∷◌, ◌++◌, eqb, length, take, drop}
-use Rattle.std.proofs.Common.{sym, ap, ◌∙◌, append_assoc, add-zero, lt_of_not-le, arith, length-append, length-drop, take_at, drop-drop, lt-ltb, le-ltb, eq-eqb, ne_eqb}
+use Rattle.std.specs.Prelude.{ℕ, suc, ◌+◌, ◌*◌, ◌<◌, ◌≤◌, min, ◌≡◌, refl, Bool, true, false, cond, List, [], ◌∷◌, ◌++◌, eqb, length, take, drop}
+use Rattle.std.proofs.Common.{sym, ◌∙◌, append_assoc, add-zero, lt_of_not-le, arith, length-append, length-drop, take_at, drop-drop, lt-ltb, le-ltb, ne_eqb}
 use Rattle.std.proofs.Math.Decide.{dec_le}
-use Rattle.std.proofs.lemmas.List.Edits.{sets, sets-eq}
+use Rattle.std.proofs.lemmas.List.Edits.{sets-eq}
 use Rattle.std.proofs.Math.Seq.{drop-append-add}
 use Rattle.octets.specs.Gather.{gather}
 use Rattle.octets.specs.GatherLaws.{gather-one}
-use Rattle.octets.specs.Octets.{word}
 use Rattle.findings.specs.Findings.{Finding}
-use Rattle.findings.specs.Words.{octets_of, finding_words, words_of, finding_octets, room, written_of, buffer_of}
+use Rattle.findings.specs.Words.{octets_of, words_of, finding_octets, room, written_of, buffer_of}
 use Rattle.report.specs.Buffers.{put_one, put, head_row, Added}
 use Rattle.report.specs.declared.Tally.{Tally}
 

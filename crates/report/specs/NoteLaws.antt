@@ -7,7 +7,7 @@ use Rattle.rules.specs.Judgments.{none}
 use Rattle.metadata.specs.Rows.{Notebook, rows_of}
 use Rattle.metadata.specs.Codes.{code_count, code_at, table_at}
 use Rattle.findings.specs.Findings.{Finding}
-use Rattle.findings.specs.Schemes.{Scheme, code_in, table_in, at_row_by, at_none_by, of_code_by, of_place_by, findings_of}
+use Rattle.findings.specs.Schemes.{code_in, table_in, at_row_by, at_none_by, of_code_by, of_place_by, findings_of}
 use Rattle.findings.specs.SchemeLaws.{scheme_places_length}
 use Rattle.findings.specs.MetadataAnswers.{metadata_scheme}
 use Rattle.report.specs.Buffers.{Added, no_tally}
