@@ -1,6 +1,6 @@
 #!/usr/bin/env bash
 # Packs as GDAL makes them, checked. Not part of the gate: it needs GDAL (Debian and Ubuntu: apt-get install gdal-bin)
-# and the proved library (rt staticlib desterlin).
+# and the proved library (cd crates/desterlin && rt lib).
 #
 #     samples/packs/with-gdal.sh [FOLDER]      FOLDER keeps the packs; without it they are thrown away
 #
