@@ -4,7 +4,7 @@
 
 PREFIX  = /usr/local
 DESTDIR =
-LIBRARY = target/staticlib/libdesterlin.a
+LIBRARY = crates/desterlin/out/libdesterlin.a
 HEADER  = include/desterlin.h
 
 INCLUDES  = $(DESTDIR)$(PREFIX)/include
@@ -27,5 +27,5 @@ install: $(LIBRARY)
 	sed -e 's|@PREFIX@|$(PREFIX)|' -e 's|@VERSION@|$(VERSION)|' include/desterlin.pc.in > '$(PACKAGE)'
 
 $(LIBRARY):
-	@echo "The proved library is not built yet. Run:  rt staticlib desterlin" >&2
+	@echo "The proved library is not built yet. Run:  cd crates/desterlin && rt lib" >&2
 	@exit 1

@@ -4,8 +4,8 @@
  *
  * A listing is the rows of a GeoPackage 1.2.1 as one string of octets; docs/LISTING.md has its layout, docs/RULES.md
  * what each code means, and docs/METADATA.md both for the metadata tables. Link with
- * target/staticlib/libdesterlin.a, which `rt staticlib desterlin` proves and writes: it is x86-64 code. README.md says
- * how a library for another machine is made, and what has to be assumed for it.
+ * crates/desterlin/out/libdesterlin.a, which `rt lib` in crates/desterlin proves and writes: it is x86-64 code.
+ * README.md says how a library for another machine is made, and what has to be assumed for it.
  *
  * What holds for all eight calls:
  *

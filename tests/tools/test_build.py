@@ -21,21 +21,36 @@ PRINTED = (PACKS / "valley.printed").read_text(encoding="utf-8")
 CRATES = [line for line in (ROOT / "crates.txt").read_text(encoding="utf-8").splitlines() if line[0] != "#"]
 PARTS = len(CRATES) - 2
 
-# It stands in for the kit's rt: what it is asked for, but for the kit's place, it writes down.
+ARCHIVE = "crates/desterlin/out/libdesterlin.a"
+
+# It stands in for the kit's rt: what it is asked for, and where, but for the kit's place, it writes down.
 STAND_IN = """\
 #!/bin/sh
 [ "$1" != doc ] || exec {rt} doc
-echo "$*" >> {asked}
+echo "$*, in $(basename "$PWD")" >> {asked}
 {does}
 """
-BUILDS = """\
-echo 'rt: octets proved (15 s)' >&2
-echo 'rt: doubles proved (unchanged since it was last proved)' >&2
-mkdir -p target/staticlib
-sleep {seconds}
-cp {archive} target/staticlib/libdesterlin.a
+PROVED = """\
+echo 'rt: chose --jobs 2 for {part}'
+echo 'fn {part}::first: proved'
+echo 'logic=proved functions=1'
 """
-FAILS = "echo 'rt: octets proved (15 s)' >&2; echo 'rt: index NOT PROVED (exit 1, 3 s)' >&2; echo more; exit 1"
+BUILDS = f"""\
+{PROVED.format(part="octets")}{PROVED.format(part="doubles")}\
+mkdir -p out
+sleep {{seconds}}
+cp {{archive}} out/libdesterlin.a
+"""
+FAILS = f"""\
+{PROVED.format(part="octets")}\
+echo 'rt: chose --jobs 2 for index'
+echo 'fn index::first: proved'
+echo 'fn index::find: not proved'
+echo logic=not-proved
+echo 'rt: the library index did not build, so nothing above it was checked' >&2
+exit 1
+"""
+ASKED = "lib, in desterlin"
 
 
 @needs_library
@@ -49,6 +64,7 @@ class Checkout(InRoom):
         for folder in ["tools", "include"]:
             shutil.copytree(ROOT / folder, self.checkout / folder, ignore=shutil.ignore_patterns("__pycache__"))
         shutil.copy(ROOT / "crates.txt", self.checkout)
+        (self.checkout / "crates" / "desterlin").mkdir(parents=True)
         (self.checkout / "samples" / "packs").mkdir(parents=True)
         shutil.copy(PACKS / "valley.gpkg", self.checkout / "samples" / "packs")
 
@@ -63,9 +79,8 @@ class Checkout(InRoom):
 
     def first_check(self) -> None:
         """The library has been built, and the first check compiles call-library.c."""
-        built = self.checkout / "target" / "staticlib"
-        built.mkdir(parents=True)
-        shutil.copy(library.archive(may_build=False), built)
+        (self.checkout / ARCHIVE).parent.mkdir()
+        shutil.copy(library.archive(may_build=False), self.checkout / ARCHIVE)
         self.assertEqual(self.check().stdout, PRINTED)
 
     def command(self, *words: str) -> List[str]:
@@ -93,12 +108,12 @@ class FirstCheck(Checkout):
         self.builds()
         ran = self.check()
         self.assertEqual((ran.returncode, ran.stdout), (1, PRINTED))
-        said = "gpkg-check: the proved library is not built yet; rt staticlib desterlin takes some minutes\n"
+        said = "gpkg-check: the proved library is not built yet; rt lib in crates/desterlin takes some minutes\n"
         self.assertEqual(ran.stderr, said)
-        self.assertEqual(self.asked_for(), ["staticlib desterlin"])
+        self.assertEqual(self.asked_for(), [ASKED])
         ran = self.check()
         self.assertEqual((ran.returncode, ran.stdout, ran.stderr), (1, PRINTED, ""))
-        self.assertEqual(self.asked_for(), ["staticlib desterlin"])
+        self.assertEqual(self.asked_for(), [ASKED])
 
     def test_progress_on_a_terminal(self) -> None:
         self.builds()
@@ -125,22 +140,24 @@ class FirstCheck(Checkout):
         for running in both:
             out, _ = running.communicate()
             self.assertEqual((running.returncode, out.decode("utf-8")), (1, PRINTED))
-        self.assertEqual(self.asked_for(), ["staticlib desterlin"])
+        self.assertEqual(self.asked_for(), [ASKED])
 
     def test_unless_told_not_to(self) -> None:
         self.builds()
         ran = self.check("--no-build")
         self.assertEqual((ran.returncode, ran.stdout), (2, ""))
         self.assertIn("the proved library is not built: there is no ", ran.stderr)
-        self.assertIn(f"build it with:  cd {self.checkout} && rt staticlib desterlin\n", ran.stderr)
+        self.assertIn(f"build it with:  cd {self.checkout}/crates/desterlin && rt lib\n", ran.stderr)
         self.assertEqual(self.asked_for(), [])
 
     def test_a_proof_that_fails(self) -> None:
         self.stand_in(FAILS)
         ran = self.check()
         self.assertEqual((ran.returncode, ran.stdout), (2, ""))
-        told = "gpkg-check: the proved library cannot be built: rt staticlib desterlin ended with status 1\n"
-        self.assertTrue(ran.stderr.endswith(f"{told}gpkg-check: rt: index NOT PROVED (exit 1, 3 s)\n"), ran.stderr)
+        told = "gpkg-check: the proved library cannot be built: rt lib in crates/desterlin ended with status 1\n"
+        why = "gpkg-check: fn index::find: not proved\n"
+        why += "gpkg-check: rt: the library index did not build, so nothing above it was checked\n"
+        self.assertTrue(ran.stderr.endswith(told + why), ran.stderr)
 
     def test_no_kit(self) -> None:
         ran = self.run_it(self.command(), PATH=str(self.room))
@@ -151,22 +168,19 @@ class FirstCheck(Checkout):
     def test_an_archive_older_than_the_crates_is_taken_as_it_is(self) -> None:
         self.builds()
         self.first_check()
-        crate = self.checkout / "crates" / "octets.rt"
-        crate.parent.mkdir()
-        crate.touch()
+        (self.checkout / "crates" / "octets.rt").touch()
         self.assertEqual(self.check().returncode, 1)
         self.assertEqual(self.asked_for(), [])
 
 
     def test_an_archive_that_lacks_a_call_is_told_to_be_an_old_one(self) -> None:
-        built = self.checkout / "target" / "staticlib"
-        built.mkdir(parents=True)
-        (built / "libdesterlin.a").write_bytes(b"!<arch>\n")
+        (self.checkout / ARCHIVE).parent.mkdir()
+        (self.checkout / ARCHIVE).write_bytes(b"!<arch>\n")
         ran = self.check()
         self.assertEqual((ran.returncode, ran.stdout), (2, ""))
         self.assertIn("gpkg-check: call-library.c cannot be compiled: ", ran.stderr)
         told = "the archive lacks a call of desterlin.h, so it is an old one; build it anew with:  "
-        self.assertTrue(ran.stderr.endswith(f"{told}cd {self.checkout} && rt staticlib desterlin\n"), ran.stderr)
+        self.assertTrue(ran.stderr.endswith(f"{told}cd {self.checkout}/crates/desterlin && rt lib\n"), ran.stderr)
 
 
 class FirstListing(Checkout):
@@ -177,12 +191,12 @@ class FirstListing(Checkout):
 
     def test_builds_and_goes_on(self) -> None:
         self.builds()
-        said = "gpkg-listing: the proved library is not built yet; rt staticlib desterlin takes some minutes\n"
+        said = "gpkg-listing: the proved library is not built yet; rt lib in crates/desterlin takes some minutes\n"
         for told in [said, ""]:
             ran = self.list("samples/packs/valley.gpkg")
             self.assertEqual((ran.returncode, ran.stderr), (0, told))
             self.assertEqual((self.room / "out.listing").read_bytes(), (PACKS / "valley.listing").read_bytes())
-        self.assertEqual(self.asked_for(), ["staticlib desterlin"])
+        self.assertEqual(self.asked_for(), [ASKED])
 
     def test_unless_told_not_to(self) -> None:
         self.builds()
@@ -235,10 +249,10 @@ class SecondUser(Checkout):
 
     def test_hears_what_may_not_be_read_or_run(self) -> None:
         self.first_check()
-        built = self.checkout / "target"
         # On some machines there is another file beside the program, with a longer name.
-        program = min((built / "tools").glob("call-library-*"), key=lambda path: len(path.name))
-        archive = built / "staticlib" / "libdesterlin.a"
+        programs = (self.checkout / "target" / "tools").glob("call-library-*")
+        program = min(programs, key=lambda path: len(path.name))
+        archive = self.checkout / ARCHIVE
         for path, mode, told in [(program, 0o444, "cannot be run"), (archive, 0, "cannot be read")]:
             path.chmod(mode)
             ran = self.as_another()

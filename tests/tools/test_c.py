@@ -116,7 +116,7 @@ class Header(unittest.TestCase):
 
     @needs_library
     def test_the_archive_is_for_the_machine_that_is_told(self) -> None:
-        self.assertIn("which `rt staticlib desterlin` proves and writes: it is x86-64 code", self.told())
+        self.assertIn("which `rt lib` in crates/desterlin proves and writes: it is x86-64 code", self.told())
         octets = library.archive(may_build=False).read_bytes()
         objects = [match.start() for match in re.finditer(b"\x7fELF", octets)]
         x86_64 = 62

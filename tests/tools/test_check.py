@@ -343,7 +343,7 @@ class NoLibrary(unittest.TestCase):
             ran = subprocess.run(command, env=env, capture_output=True, check=False)
             self.assertEqual((ran.returncode, ran.stdout), (2, b""))
             self.assertEqual(ran.stderr.count(b"the proved library is not built"), 1)
-            self.assertIn(b"rt staticlib desterlin", ran.stderr)
+            self.assertIn(b"crates/desterlin && rt lib", ran.stderr)
 
 
 if __name__ == "__main__":

@@ -38,7 +38,7 @@ class Examples(InRoom):
         ran = self.make(f"LIBRARY={self.room}/none.a", f"BUILT={self.room}")
         self.assertEqual((ran.returncode, ran.stdout), (2, ""))
         self.assertIn("The proved library is not built yet.", ran.stderr)
-        self.assertIn("rt staticlib desterlin", ran.stderr)
+        self.assertIn("cd ../crates/desterlin && rt lib", ran.stderr)
 
     @needs_library
     def test_builds_and_runs_the_viewer(self) -> None:
@@ -115,7 +115,7 @@ class Install(InRoom):
     def test_trouble_installs_nothing(self) -> None:
         ran = self.install(PREFIX=self.room, LIBRARY=self.room / "none.a")
         self.assertEqual((ran.returncode, ran.stdout, self.installed()), (2, "", []))
-        self.assertIn("The proved library is not built yet. Run:  rt staticlib desterlin", ran.stderr)
+        self.assertIn("The proved library is not built yet. Run:  cd crates/desterlin && rt lib", ran.stderr)
         for prefix in ["", "farm", "two words"]:
             ran = self.install(DESTDIR=self.room, PREFIX=prefix)
             self.assertEqual((ran.returncode, ran.stdout, self.installed()), (2, "", []))

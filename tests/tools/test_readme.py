@@ -13,8 +13,8 @@ from typing import List, Tuple
 from packs import ROOT, Ran, needs_library
 
 PROVES = re.compile(r"^(rt|bash \.ci/run|\.ci/run)\b")
-DESK = "target/bin/desk"
-NO_DESK = "the desk program is not built: rt check desk"
+DESK = "crates/desk/out/desk"
+NO_DESK = "the desk program is not built: cd crates/desk && rt run"
 
 
 def commands() -> List[Tuple[str, str]]:

@@ -20,8 +20,11 @@ from .rules import Finding, Refusal
 ROOT = Path(__file__).resolve().parents[2]
 SOURCE = ROOT / "tools" / "call-library.c"
 HEADER = ROOT / "include" / "desterlin.h"
-ARCHIVE = ROOT / "target" / "staticlib" / "libdesterlin.a"
-BUILD = ["rt", "staticlib", "desterlin"]
+CRATE = ROOT / "crates" / "desterlin"
+ARCHIVE = CRATE / "out" / "libdesterlin.a"
+# In the folder of the crate.
+BUILD = ["rt", "lib"]
+THE_BUILD = f"{shlex.join(BUILD)} in {CRATE.relative_to(ROOT)}"
 BUILT = ROOT / "target" / "tools"
 FLAGS = ["-std=c99", "-O2", "-Wall", "-Wextra", "-Werror", f"-I{HEADER.parent}"]
 
@@ -30,11 +33,15 @@ LAST_LINES = 5
 
 # What the tools say of the library in their help.
 HELP = f"""\
-The proved library is built where it is missing, which takes some minutes, as by:  {shlex.join(BUILD)}
+The proved library is built where it is missing, which takes some minutes, as by:  {THE_BUILD}
 DESTERLIN_LIBRARY may name another archive of it than {ARCHIVE.relative_to(ROOT)}.
 """
 NO_BUILD_HELP = "do not build the proved library where it is missing"
-HOW_TO_BUILD = f"cd {shlex.quote(str(ROOT))} && {shlex.join(BUILD)}"
+HOW_TO_BUILD = f"cd {shlex.quote(str(CRATE))} && {shlex.join(BUILD)}"
+
+# What rt says as it begins with a part, and of what it has not proved.
+BEGUN = re.compile(r"rt: chose --jobs \d+ for (\w+)$")
+UNPROVED = re.compile(r"\w+ \S+: (?:not proved|no proof)\b|rt: the library \w+ did not build")
 
 # What a linker says of an archive that is older than the header.
 LACKS_A_CALL = re.compile(r"undefined (?:symbol|reference)\b.*\bdesterlin_")
@@ -128,36 +135,42 @@ def build() -> None:
     with locked("the proved library is not built, and cannot be here"):
         progress.clear()
         if not os.path.isfile(ARCHIVE):
-            complain([f"the proved library is not built yet; {shlex.join(BUILD)} takes some minutes"])
+            complain([f"the proved library is not built yet; {THE_BUILD} takes some minutes"])
             run_build(progress)
             progress.clear()
 
 
 def run_build(progress: Progress) -> None:
-    parts, proved = len(parts_of("desterlin")), 0
+    parts = len(parts_of(CRATE.name))
+    proved: Set[str] = set()
     said: List[str] = []
+    part = ""
     progress.say(f"0 of {parts} parts proved")
     with started_build() as running:
         try:
             for line in running.stdout or []:
                 said.append(line)
-                part = re.match(r"rt: (\w+) proved ", line)
-                if part:
-                    proved += 1
-                    progress.say(f"{proved} of {parts} parts proved: {part[1]}")
+                begun = BEGUN.match(line)
+                if begun:
+                    part = begun[1]
+                    # Of what it needs, nothing is said that an earlier build has proved.
+                    proved |= parts_of(part) - {part}
+                elif line.startswith("logic=proved "):
+                    proved.add(part)
+                    progress.say(f"{len(proved)} of {parts} parts proved: {part}")
         except BaseException:
             running.terminate()
             raise
     if running.returncode != 0:
-        told_lines = [line for line in said if "NOT PROVED" in line] or said[-LAST_LINES:]
-        words = f"the proved library cannot be built: {shlex.join(BUILD)} ended with status {running.returncode}\n"
+        told_lines = [line for line in said if UNPROVED.match(line)] or said[-LAST_LINES:]
+        words = f"the proved library cannot be built: {THE_BUILD} ended with status {running.returncode}\n"
         raise Trouble((words + "".join(told_lines)).rstrip())
 
 
 def started_build() -> "subprocess.Popen[str]":
     try:
         return subprocess.Popen(
-            BUILD, cwd=ROOT, stdin=subprocess.DEVNULL, stdout=subprocess.PIPE, stderr=subprocess.STDOUT,
+            BUILD, cwd=CRATE, stdin=subprocess.DEVNULL, stdout=subprocess.PIPE, stderr=subprocess.STDOUT,
             encoding="utf-8", errors="replace",
         )
     except OSError as error:
@@ -167,7 +180,7 @@ def started_build() -> "subprocess.Popen[str]":
 
 def parts_of(crate: str) -> Set[str]:
     """A crate and all that it needs, as crates.txt has them."""
-    needs = dict(re.findall(r"^(\w+):(.*)$", (ROOT / "crates.txt").read_text(encoding="utf-8"), re.M))
+    needs = dict(re.findall(r"^(\w+)(?: staticlib)?:(.*)$", (ROOT / "crates.txt").read_text(encoding="utf-8"), re.M))
     parts: Set[str] = set()
     left = [crate]
     while left:
