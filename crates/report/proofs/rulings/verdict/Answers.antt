@@ -13,4 +13,4 @@ pub returns-in-Refused : goal.returns-in-Refused
 returns-in-Refused c = search (verdict_refused, verdict_done, rules)
 
 pub returns-in-Accepted : goal.returns-in-Accepted
-returns-in-Accepted c = search (verdict_refused, verdict_done, rules)
+returns-in-Accepted c = search (verdict_done, rules)
