@@ -1,6 +1,6 @@
 //! The packs that the vectors start from.
 
-use crate::make::{set_count, set_u32, Draft};
+use crate::make::Draft;
 
 /// A moment that 151 lets pass.
 pub const MOMENT: &str = "2024-02-29T00:00:00.000Z";
@@ -45,37 +45,6 @@ pub fn valley() -> Draft {
     draft.tile("valley", 2, 3, 3);
     draft.extension(Some("valley"), Some("tile_data"), "gpkg_webp", "read-write");
     draft
-}
-
-/// The valley refused for each of the reader's reasons, and how: for the calls whose
-/// other reasons stand behind those.
-pub fn refused_listings() -> [(Vec<u8>, &'static str); 11] {
-    let good = valley().listing();
-    let changed = |at: usize, word: u32| {
-        let mut octets = good.clone();
-        set_u32(&mut octets, at, word);
-        octets
-    };
-    let mut count = good.clone();
-    set_count(&mut count, 6, 1_025);
-    let drafted = |change: fn(&mut Draft)| {
-        let mut draft = valley();
-        change(&mut draft);
-        draft.listing()
-    };
-    [
-        (Vec::new(), "refused 1 0 0"),
-        (good[..63].to_vec(), "refused 1 0 0"),
-        (vec![0; 9_762_881], "refused 2 0 0"),
-        (changed(0, 2), "refused 3 0 0"),
-        (changed(4, 64), "refused 4 0 0"),
-        (count, "refused 5 6 0"),
-        (changed(12, 65), "refused 6 1 0"),
-        (drafted(|d| d.tiles[2].table_name.length = 1_000_000), "refused 7 5 2"),
-        (drafted(|d| d.contents[0].flag = 2), "refused 8 2 0"),
-        (drafted(|d| d.tiles[1].table_name = d.text_apart([0xe9])), "refused 13 5 1"),
-        (drafted(|d| d.extensions[0].scope = d.text_apart([0xff])), "refused 13 6 0"),
-    ]
 }
 
 /// The valley with one level: zoom 0, 4 by 4 tiles of 256 pixels of 1.0, and

@@ -13,7 +13,6 @@ mod contents;
 mod dates;
 mod extensions;
 mod far;
-mod headers;
 mod layout;
 mod levels;
 mod limits;

@@ -28,13 +28,9 @@ pub const FIELDS: [Field; 12] = [
 
 pub fn check(tally: &mut Tally) {
     for (place, may_be_null, field) in FIELDS {
+        check_outside(tally, place, field);
+        check_inside(tally, field);
         let refused = format!("refused 7 {place}");
-        for (shows, span) in outside(NAMES_END) {
-            tally.judged(shows, &with(field, span), &refused);
-        }
-        for (shows, span) in inside(NAMES_END) {
-            tally.same(shows, is_accepted(field, span), true);
-        }
         let accepted = is_accepted(field, NULL);
         tally.same("NULL only where allowed", accepted, may_be_null);
         if !may_be_null {
@@ -56,7 +52,7 @@ fn is_accepted(field: TextOf, text: Span) -> bool {
     crate::calls::report(&with(field, text)).is_ok()
 }
 
-pub fn text(start: u32, length: u32) -> Span {
+fn text(start: u32, length: u32) -> Span {
     Span { start, length }
 }
 
@@ -65,28 +61,33 @@ pub fn text(start: u32, length: u32) -> Span {
 /// read-write 10.
 pub const NAMES_END: u32 = 96;
 
-/// Texts outside of the names, which end at a place.
-pub fn outside(end: u32) -> [(&'static str, Span); 9] {
-    [
-        ("reading 1: length 0 past the end", text(end + 1, 0)),
-        ("one past the end", text(end - 3, 4)),
-        ("one octet at the end", text(end, 1)),
-        ("all and one more", text(0, end + 1)),
+fn check_outside(tally: &mut Tally, place: &str, field: TextOf) {
+    let refused = format!("refused 7 {place}");
+    let outside = [
+        ("reading 1: length 0 past the end", text(NAMES_END + 1, 0)),
+        ("one past the end", text(NAMES_END - 3, 4)),
+        ("one octet at the end", text(NAMES_END, 1)),
+        ("all and one more", text(0, NAMES_END + 1)),
         ("reading 2: NULL's start with length 1", text(u32::MAX, 1)),
         ("reading 2: no wrap to 0", text(1, u32::MAX)),
-        ("reading 2: no wrap to the end", text(end + 1, u32::MAX)),
+        ("reading 2: no wrap to 96", text(NAMES_END + 1, u32::MAX)),
         ("reading 2: no wrap at the top", text(u32::MAX, u32::MAX)),
         ("NULL's start less one", text(u32::MAX - 1, 0)),
-    ]
+    ];
+    for (shows, span) in outside {
+        tally.judged(shows, &with(field, span), &refused);
+    }
 }
 
-/// Texts at the end of the names, inside of them.
-pub fn inside(end: u32) -> [(&'static str, Span); 3] {
-    [
-        ("reading 1: length 0 at the end", text(end, 0)),
-        ("ends at the end", text(end - 4, 4)),
-        ("all of it", text(0, end)),
-    ]
+fn check_inside(tally: &mut Tally, field: TextOf) {
+    let inside = [
+        ("reading 1: length 0 at the end", text(NAMES_END, 0)),
+        ("ends at the end", text(NAMES_END - 4, 4)),
+        ("all of it", text(0, NAMES_END)),
+    ];
+    for (shows, span) in inside {
+        tally.same(shows, is_accepted(field, span), true);
+    }
 }
 
 /// Reading 3: lowest table, then lowest row.

@@ -1,11 +1,11 @@
 //! The fill, and columns that are too short for any call.
 
-use super::super::base::{header_alone, octets_of, reference_rows, refused_listings, valley};
+use super::super::base::{header_alone, octets_of, reference_rows, valley};
 use super::super::layout::ONE_ROW_EACH;
 use super::{octets, valley_columns, Numbers, Tally};
 use crate::calls::{fill, Columns};
 use crate::listing::Refusal;
-use crate::make::Draft;
+use crate::make::{set_count, set_u32, Draft};
 
 pub fn check(tally: &mut Tally) {
     check_octets(tally);
@@ -149,9 +149,33 @@ fn check_what_columns_held(tally: &mut Tally) {
 
 /// 4.8: the listing's reasons come first, those of its own tile rows too.
 fn check_listing_first(tally: &mut Tally) {
+    let good = valley().listing();
+    let changed = |at: usize, word: u32| {
+        let mut octets = good.clone();
+        set_u32(&mut octets, at, word);
+        octets
+    };
+    let mut count = good.clone();
+    set_count(&mut count, 6, 1_025);
+    let [mut outside, mut ill, mut flag] = [valley(), valley(), valley()];
+    outside.tiles[2].table_name.length = 1_000_000;
+    ill.tiles[1].table_name = ill.text_apart([0xe9]);
+    flag.contents[0].flag = 2;
+    let cases = [
+        (Vec::new(), "refused 1 0 0"),
+        (good[..63].to_vec(), "refused 1 0 0"),
+        (vec![0; 9_762_881], "refused 2 0 0"),
+        (changed(0, 2), "refused 3 0 0"),
+        (changed(4, 64), "refused 4 0 0"),
+        (count, "refused 5 6 0"),
+        (changed(12, 65), "refused 6 1 0"),
+        (outside.listing(), "refused 7 5 2"),
+        (flag.listing(), "refused 8 2 0"),
+        (ill.listing(), "refused 13 5 1"),
+    ];
     let mut bad_entry = valley_columns();
     bad_entry[0][0] = -1;
-    for (listing, want) in refused_listings() {
+    for (listing, want) in cases {
         tally.refused_all("4.8: columns good", &listing, &octets(&valley_columns()), want);
         tally.refused_all("4.9: before 14", &listing, &Columns::default(), want);
         tally.refused_all("4.9: before 7 of an entry", &listing, &octets(&bad_entry), want);

@@ -1,7 +1,6 @@
 //! Refusals 7 and 13 of a metadata listing: its five text fields.
 
 use super::super::base::valley;
-use super::super::texts::{inside, outside, text};
 use super::{survey, Tally};
 use crate::calls::report_metadata;
 use crate::make::{span, MetadataDraft, Span, NULL};
@@ -33,6 +32,10 @@ pub fn check(tally: &mut Tally) {
     check_names_of_either(tally);
 }
 
+fn text(start: u32, length: u32) -> Span {
+    Span { start, length }
+}
+
 /// What refuses the survey with a text changed, if anything does.
 fn refused_with((_, _, field): Field, names: &[u8], text: Span) -> Option<(u32, u32, u32)> {
     let mut draft = survey();
@@ -44,13 +47,29 @@ fn refused_with((_, _, field): Field, names: &[u8], text: Span) -> Option<(u32, 
 
 fn check_outside(tally: &mut Tally, field: Field) {
     let (place, _, change) = field;
-    for (shows, span) in outside(NAMES_END) {
+    let outside = [
+        ("7: length 0 past the end", text(NAMES_END + 1, 0)),
+        ("7: one past the end", text(NAMES_END - 3, 4)),
+        ("7: one octet at the end", text(NAMES_END, 1)),
+        ("7: all and one more", text(0, NAMES_END + 1)),
+        ("7: NULL's start with length 1", text(u32::MAX, 1)),
+        ("7: no wrap to 0", text(1, u32::MAX)),
+        ("7: no wrap to 92", text(NAMES_END + 1, u32::MAX)),
+        ("7: no wrap at the top", text(u32::MAX, u32::MAX)),
+        ("7: NULL's start less one", text(u32::MAX - 1, 0)),
+    ];
+    for (shows, span) in outside {
         tally.surveyed(shows, &format!("refused 7 {place}"), |d| *change(d) = span);
     }
 }
 
 fn check_inside(tally: &mut Tally, field: Field) {
-    for (shows, span) in inside(NAMES_END) {
+    let inside = [
+        ("length 0 at the end", text(NAMES_END, 0)),
+        ("ends at the end", text(NAMES_END - 4, 4)),
+        ("all of it", text(0, NAMES_END)),
+    ];
+    for (shows, span) in inside {
         tally.same(shows, refused_with(field, b"", span), None);
     }
 }
