@@ -1,4 +1,4 @@
--- The cases of the definitions, in the shape in which needs ask for them.
+-- The cases of the definitions, in the shape in which goals ask for them.
 use Prim.Native.Nat.{ℕ, ◌+◌, ◌*◌, ◌-◌, ◌/◌, ◌%◌, ◌^◌, ◌<◌, ◌≤◌, min}
 use mathlib.Core.Path.{◌≡◌, refl, sym, ap, ◌∙◌, subst}
 use mathlib.Core.List.{List, [], ◌∷◌, ◌++◌}
@@ -14,7 +14,8 @@ use Rattle.octets.specs.Octets.{le32, le64, part, word, filled}
 use Rattle.octets.specs.BufferLaws.{filled_none}
 use Rattle.octets.specs.Slices.{nth}
 use Rattle.octets.specs.Counts.{one_if}
-use Rattle.octets.specs.SearchLaws.{Seeking, seek-more, first-lowest}
+use Rattle.octets.proofs.SearchLaws.{first-lowest}
+use Rattle.octets.specs.SearchLaws.{Seeking, seek-more}
 use Rattle.octets.specs.SkipLaws.{Skipped, skipped_on}
 use Rattle.octets.specs.Search.{first}
 use Rattle.octets.specs.Texts.{text_of}

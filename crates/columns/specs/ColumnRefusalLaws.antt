@@ -8,7 +8,7 @@ use Rattle.listing.specs.Listing.{table, rows, layout}
 use Rattle.listing.specs.Refusals.{Reason, header_reasons, row_reasons, decide_by, decide, checked, outcome, number_of, is_accepted}
 use Rattle.listing.specs.ReasonLaws.{number_at, numbers_of, answer_by, Free, Given, free-left, free-right, decide-both, decide_stop, decide-none, decide_fault, number-exactly, good-exactly}
 use Rattle.listing.specs.RefusalLaws.{reasons, accepted-exactly}
-use Rattle.listing.specs.FurtherLaws.{listing_said, further_refused, further_rest, further_exactly, further_place, further_accepted, further_listing}
+use Rattle.listing.proofs.FurtherLaws.{listing_said, further_refused, further_rest, further_exactly, further_place, further_accepted, further_listing}
 use Rattle.listing.specs.declared.Checked.{Checked}
 use Rattle.listing.specs.declared.Checked.TheVariants.{Clean, Fault}
 use Rattle.listing.specs.declared.Outcome.TheVariants.{Accepted, Refused}

@@ -9,7 +9,8 @@ use native.Mathlib.Omega.{arith}
 use borrow.Author.Tests.{lt-ltb, le-ltb, lt-leb, ne_eqb, ltb-true, ltb-false}
 use Rattle.octets.specs.Octets.{le32, le64, part}
 use Rattle.octets.specs.Search.{first, any}
-use Rattle.octets.specs.SearchLaws.{first-agree, none-at, any-or, finds, misses}
+use Rattle.octets.proofs.SearchLaws.{none-at, any-or}
+use Rattle.octets.specs.SearchLaws.{first-agree, finds, misses}
 use Rattle.octets.specs.SkipLaws.{Skipped, side, skipped_join}
 use Rattle.octets.specs.Texts.{text_of, outside}
 use Rattle.octets.specs.declared.Text.{Text}

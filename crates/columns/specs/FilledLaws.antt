@@ -14,11 +14,12 @@ use Rattle.octets.specs.BufferLaws.{length-filled, filled-front, part-between}
 use Rattle.octets.specs.Gather.{gather}
 use Rattle.octets.specs.GatherLaws.{gather-around, gather-agree}
 use Rattle.octets.specs.Search.{any}
-use Rattle.octets.specs.SearchLaws.{any_none}
+use Rattle.octets.proofs.SearchLaws.{any_none}
 use Rattle.octets.specs.Slices.{nth}
 use Rattle.octets.specs.Texts.{outside}
 use Rattle.listing.specs.Listing.{row, most, count, offset, table, tables_of, rows}
-use Rattle.listing.specs.ListingLaws.{count_most, table-length, table-rows, no_bad_row, no_ill_row}
+use Rattle.listing.proofs.ListingLaws.{no_bad_row, no_ill_row}
+use Rattle.listing.specs.ListingLaws.{count_most, table-length, table-rows}
 use Rattle.listing.specs.Refusals.{ill, faulty_row, outcome, is_accepted}
 use Rattle.listing.specs.RefusalLaws.{accepted-is}
 use Rattle.listing.specs.declared.Checked.{Checked}

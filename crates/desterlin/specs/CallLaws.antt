@@ -9,7 +9,8 @@ use Rattle.findings.specs.Answers.{reported, verdict_of, is_refused, lookup_of}
 use Rattle.findings.specs.Words.{words_of, written_of, report_words, ruling_words, located_words}
 use Rattle.findings.specs.ReportedLaws.{reported-none}
 use Rattle.findings.specs.RefusedLaws.{accepted-number}
-use Rattle.findings.specs.WordLaws.{findings-fit, report_fits, verdict_fits, lookup_fits}
+use Rattle.findings.proofs.WordLaws.{verdict_fits}
+use Rattle.findings.specs.WordLaws.{findings-fit, report_fits, lookup_fits}
 use Rattle.findings.specs.declared.Ruling.{Ruling}
 use Rattle.findings.specs.declared.Ruling.TheVariants.{Pass, Fail, NotTestable, Refused}
 use Rattle.findings.specs.declared.Located.{Located}

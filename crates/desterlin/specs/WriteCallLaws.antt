@@ -7,7 +7,7 @@ use Rattle.std.proofs.Math.Bool.{true, false}
 use native.Mathlib.Omega.{arith}
 use Rattle.octets.specs.Octets.{le32, filled}
 use Rattle.octets.specs.BufferLaws.{filled_none, filled-front, filled-past}
-use Rattle.octets.specs.SearchLaws.{first-lowest}
+use Rattle.octets.proofs.SearchLaws.{first-lowest}
 use Rattle.listing.specs.Listing.{table, tables_of, numbered}
 use Rattle.listing.specs.TableLaws.{Seven, tables-numbered, numbered-seven, tables_are}
 use Rattle.listing.specs.Refusals.{outcome, is_accepted}
@@ -17,7 +17,8 @@ use Rattle.listing.specs.declared.Outcome.TheVariants as reader
 use Rattle.writer.specs.Parts.{written}
 use Rattle.writer.specs.PartLaws.{Sized, written-most}
 use Rattle.writer.specs.Writing.{ragged, crowded, size_reasons, write_reasons, room_answer, write_answer, number_in, octets_in, given_of}
-use Rattle.writer.specs.WriteLaws.{sized, refusal_or, as_reader, reader_accepts, reader_tables, never-long, writes_back, writes_all, refused-place, written_or_refused, number-none}
+use Rattle.writer.proofs.WriteLaws.{reader_accepts, writes_all}
+use Rattle.writer.specs.WriteLaws.{sized, refusal_or, as_reader, reader_tables, never-long, writes_back, refused-place, written_or_refused, number-none}
 use Rattle.writer.specs.declared.Written.{Written}
 use Rattle.writer.specs.declared.Written.TheVariants.{Octets, Refused}
 use Rattle.pack.specs.Tables.{pack_in, pack_of}

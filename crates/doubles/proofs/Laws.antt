@@ -1,4 +1,4 @@
--- The cases of the definitions, in the shape in which needs ask for them.
+-- The cases of the definitions, in the shape in which goals ask for them.
 use Prim.Native.Nat.{ℕ, ◌*◌, ◌/◌, ◌^◌, ◌<◌, ◌≤◌}
 use mathlib.Core.Path.{◌≡◌, refl, sym, ap, subst, ◌∙◌}
 use mathlib.Core.Bool.{Bool, true, false, not}

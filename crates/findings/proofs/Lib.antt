@@ -1,0 +1,3 @@
+pub mod VerdictLaws
+pub mod RulingLaws
+pub mod WordLaws

@@ -11,12 +11,10 @@ pub mod StandsLaws
 pub mod SchemeLaws
 pub mod FindingLaws
 pub mod OrderLaws
-pub mod VerdictLaws
 pub mod LookupLaws
 pub mod ReportedLaws
 pub mod PartnerLaws
 pub mod RefusedLaws
-pub mod RulingLaws
 pub mod LocatedLaws
 pub mod WordLaws
 pub mod FarLaws

@@ -4,7 +4,7 @@ use Rattle.std.proofs.Math.Path.{refl, subst}
 use Rattle.std.proofs.Common.{sym, ap, ◌∙◌, inl, inr, ⊎_elim, le-ltb, ltb-false}
 use Rattle.std.proofs.Math.Bool.{true, false, and-false}
 use Rattle.std.proofs.lemmas.Bool.{false≢true}
-use Rattle.octets.specs.SearchLaws.{first-lowest}
+use Rattle.octets.proofs.SearchLaws.{first-lowest}
 use Rattle.spelling.specs.Words.{tiles}
 use Rattle.listing.specs.Refusals.{outcome, number_of, is_accepted}
 use Rattle.listing.specs.RefusalLaws.{readers_own, accepted-is}

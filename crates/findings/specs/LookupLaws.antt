@@ -10,9 +10,9 @@ use Rattle.octets.specs.Gather.{gather}
 use Rattle.octets.specs.Numbers.{eq_z}
 use Rattle.octets.specs.NumberLaws.{eq_z_true}
 use Rattle.octets.specs.Search.{first, any}
-use Rattle.octets.specs.SearchLaws.{first-lowest, any_some}
+use Rattle.octets.proofs.SearchLaws.{first-lowest, any_some}
 use Rattle.octets.specs.Texts.{same}
-use Rattle.octets.specs.TextLaws.{same_equal}
+use Rattle.octets.proofs.TextLaws.{same_equal}
 use Rattle.pack.specs.Rows.{Tile, Pack, rows_in}
 use Rattle.rules.specs.Judgments.{partner, first_row}
 use Rattle.rules.specs.Tiles.{at_address, of541}

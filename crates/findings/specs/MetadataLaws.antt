@@ -9,7 +9,7 @@ use mathlib.Core.List.{List, [], ◌∷◌}
 use Rattle.listing.specs.Listing.{layout}
 use Rattle.listing.specs.Refusals.{reasons_in, decide, outcome, outcome_with, is_accepted}
 use Rattle.listing.specs.ReasonLaws.{Free, Given, given_or_none, decide_stop, decide-none}
-use Rattle.listing.specs.FurtherLaws.{further_refused, further_rest}
+use Rattle.listing.proofs.FurtherLaws.{further_refused, further_rest}
 use Rattle.listing.specs.declared.Format.TheVariants.{Metadata}
 use Rattle.listing.specs.declared.Outcome.{Outcome}
 use Rattle.listing.specs.declared.Outcome.TheVariants.{Accepted, Refused}

@@ -9,7 +9,7 @@ use Rattle.std.proofs.Math.Nat.{div-le_self}
 use native.Mathlib.Omega.{arith}
 use borrow.Author.Tests.{ltb-true, ltb-false, not-false}
 use Rattle.octets.specs.Search.{first, any}
-use Rattle.octets.specs.SearchLaws.{first-lowest, none-at}
+use Rattle.octets.proofs.SearchLaws.{first-lowest, none-at}
 use Rattle.octets.specs.Texts.{outside}
 use Rattle.octets.specs.declared.Text.{Text}
 use Rattle.listing.specs.Formats.{longest, table_count, table_number, row_in}

@@ -18,23 +18,20 @@ use Rattle.rules.specs.Judgments.{none}
 use Rattle.rules.specs.CodeLaws.{codes-sound}
 use Rattle.findings.specs.Findings.{Finding, Every}
 use Rattle.findings.specs.Schemes.{tile_scheme}
-use Rattle.findings.specs.Answers.{reported, ruled, verdict_of, tile_at, lookup_of}
-use Rattle.findings.specs.Words.{octets_of, words_of, finding_octets, room, written_of, buffer_of, report_words, ruling_words, located_words}
-use Rattle.findings.specs.Demands.{Listed, Due, Partner, Fits, AllFit}
-use Rattle.findings.specs.SchemeLaws.{due_fits, outcome-length, outcome_fits}
+use Rattle.findings.specs.Answers.{reported, tile_at, lookup_of}
+use Rattle.findings.specs.Words.{octets_of, words_of, finding_octets, room, written_of, buffer_of, report_words, located_words}
+use Rattle.findings.specs.Demands.{Due, Partner, Fits, AllFit}
+use Rattle.findings.specs.SchemeLaws.{outcome-length, outcome_fits}
 use Rattle.findings.specs.ReportedLaws.{tile-reported}
 use Rattle.findings.specs.PartnerLaws.{due_partner}
 use Rattle.findings.specs.RefusedLaws.{written-fit, place-fits}
-use Rattle.findings.specs.RulingLaws.{kind, ruled-kind, verdict_judged, verdict_cases, verdict_fail_rule}
 use Rattle.findings.specs.LocatedLaws.{is_refused, found-there, never-refused, lookup_cases}
-use Rattle.findings.specs.declared.Ruling.{Ruling}
-use Rattle.findings.specs.declared.Ruling.TheVariants as ruling
 use Rattle.findings.specs.declared.Located.{Located}
 use Rattle.findings.specs.declared.Located.TheVariants as look
 
 -- ---- code, row and partner of a finding
 module _ (s : List ℕ) where
-  partner-fits : is_accepted (outcome s) ≡ true → (f : Finding) → Due (pack_of s) f → Fits f.partner
+  pub partner-fits : is_accepted (outcome s) ≡ true → (f : Finding) → Due (pack_of s) f → Fits f.partner
   partner-fits a f d = by (due_partner (pack_of s) f d)
     where
       by : Partner (pack_of s) f.partner → Fits f.partner
@@ -57,23 +54,8 @@ module _ (s : List ℕ) where
       (q.0, (q.1.0, (q.1.1.0, (total-fits, (omega (arith, total-fits), tt)))))
 
   -- those of a refusal
-  turned-fits : (n t r : ℕ) → outcome s ≡ reading.Refused n t r → AllFit (n ∷ t ∷ r ∷ [])
+  pub turned-fits : (n t r : ℕ) → outcome s ≡ reading.Refused n t r → AllFit (n ∷ t ∷ r ∷ [])
   turned-fits n t r o = rw o at (place-fits s)
-
-  pub verdict_fits : (c : ℕ) → AllFit (ruling_words (verdict_of s c))
-  verdict_fits c =
-      verdict_cases s c (λ v. AllFit (ruling_words v))
-      (λ z. written-fit (3 ∷ none ∷ 9 ∷ 0 ∷ 0 ∷ []) refl)
-      (λ n t r l o. (omega arith, (omega arith, turned-fits n t r o)))
-      (λ l a. by (ruled (pack_of s) c) l a refl)
-    where
-      by : (v : Ruling) → Listed c → is_accepted (outcome s) ≡ true → ruled (pack_of s) c ≡ v → AllFit (ruling_words v)
-      by ruling.Pass l a e = written-fit (0 ∷ none ∷ 0 ∷ 0 ∷ 0 ∷ []) refl
-      by (ruling.Fail i) l a e =
-          let h = (verdict_fail_rule s c i).0 (verdict_judged s c l a ∙ e) in
-          (omega arith, (subst Fits h.row (due_fits (tile_scheme (pack_of s)) codes-sound (rows-numbered s a) (partner-fits a) h.finding h.holds.1).1.0, written-fit (0 ∷ 0 ∷ 0 ∷ []) refl))
-      by ruling.NotTestable l a e = written-fit (2 ∷ none ∷ 0 ∷ 0 ∷ 0 ∷ []) refl
-      by (ruling.Refused n t r) l a e = absurd (omega (arith, ap kind e, ruled-kind (pack_of s) c))
 
   pub lookup_fits : (k : ℕ) (z c r : ℤ) → AllFit (located_words (lookup_of s k z c r))
   unfolding rows_in

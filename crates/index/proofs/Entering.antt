@@ -8,7 +8,7 @@ use native.Mathlib.Nat.{mod-lt, mul_comm, mul-le-mul_left, le_of_lt, lt_of_le_of
 use borrow.Author.Tests.{ltb-true, ltb-false}
 use lib.Dec.{ltb}
 use Rattle.octets.specs.Search.{first}
-use Rattle.octets.specs.SearchLaws.{first-lowest}
+use Rattle.octets.proofs.SearchLaws.{first-lowest}
 use Rattle.index.specs.Chains.{print_range}
 use Rattle.index.specs.ChainLaws.{by_test, entry_new, entry_old, entry-never, asks-by}
 use Rattle.index.specs.Work.{mix_range, place_of, print_of, pushed, settled, Leads, Keyed, Entered}

@@ -9,7 +9,7 @@ use lib.Signed.{lt_z}
 use Rattle.octets.specs.Numbers.{signed, eq_z}
 use Rattle.octets.specs.NumberLaws.{eq_z_true}
 use Rattle.octets.specs.Texts.{same, spell}
-use Rattle.octets.specs.TextLaws.{same_equal, same_refl}
+use Rattle.octets.proofs.TextLaws.{same_equal, same_refl}
 use Rattle.pack.specs.declared.ContentsRow.{ContentsRow}
 use Rattle.pack.specs.declared.SetRow.{SetRow}
 use Rattle.pack.specs.declared.MatrixRow.{MatrixRow}

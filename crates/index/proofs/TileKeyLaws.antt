@@ -7,7 +7,7 @@ use lib.IntN.{ℤ}
 use Rattle.octets.specs.Numbers.{eq_z}
 use Rattle.octets.specs.NumberLaws.{eq_z_true}
 use Rattle.octets.specs.Texts.{same}
-use Rattle.octets.specs.TextLaws.{same_equal, same_refl}
+use Rattle.octets.proofs.TextLaws.{same_equal, same_refl}
 use Rattle.octets.specs.declared.Name.{Name}
 use Rattle.pack.specs.Rows.{Rows, Tile}
 use Rattle.pack.specs.Tables.{tile_in, tile_of, tiles_in}

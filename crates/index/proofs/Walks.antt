@@ -1,4 +1,4 @@
--- The laws of a walk through lent octets, in the shape in which needs ask for them.
+-- The laws of a walk through lent octets, in the shape in which goals ask for them.
 use Prim.Native.Nat.{ℕ, suc, ◌+◌, ◌-◌, ◌*◌, ◌/◌, ◌%◌, ◌<◌, ◌≤◌}
 use mathlib.Core.Path.{◌≡◌, refl, sym, ◌∙◌}
 use mathlib.Core.List.{List}

@@ -8,7 +8,8 @@ use native.Mathlib.Omega.{arith}
 use borrow.Author.Tests.{eqb-true, eqb-false, eq-eqb, ltb-true, ltb-false}
 use Rattle.std.proofs.Math.Dec.{eqb}
 use Rattle.octets.specs.Search.{first}
-use Rattle.octets.specs.SearchLaws.{Lowest, first-lowest}
+use Rattle.octets.proofs.SearchLaws.{first-lowest}
+use Rattle.octets.specs.SearchLaws.{Lowest}
 use Rattle.index.specs.Chains.{row_range, print_range, is_entry, newest, marked, Index, Asks, Walk}
 
 -- by cases on a test

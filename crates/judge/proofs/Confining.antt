@@ -11,7 +11,7 @@ use lib.Signed.{lt_z}
 use mir.Val.{sel}
 use Rattle.octets.specs.Numbers.{signed, eq_z}
 use Rattle.octets.specs.Texts.{same, spell}
-use Rattle.octets.specs.TextLaws.{same_equal}
+use Rattle.octets.proofs.TextLaws.{same_equal}
 use Rattle.pack.specs.Tables.{matrix_row, matrix_of, matrices_of, tile_of}
 use Rattle.pack.specs.declared.MatrixRow.{MatrixRow}
 use Rattle.pack.specs.declared.TileRow.{TileRow}

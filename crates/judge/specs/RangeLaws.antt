@@ -6,7 +6,7 @@ use Rattle.std.specs.Int.Signed.{lt_z}
 use Rattle.octets.specs.Numbers.{eq_z}
 use Rattle.octets.specs.NumberLaws.{eq_z_true}
 use Rattle.octets.specs.Search.{first}
-use Rattle.octets.specs.SearchLaws.{first-lowest, any_some}
+use Rattle.octets.proofs.SearchLaws.{first-lowest, any_some}
 use Rattle.pack.specs.Rows.{Rows, Matrix, Tile}
 use Rattle.rules.specs.Matrices.{matrix_named, at_level}
 use Rattle.rules.specs.Tiles.{at_most, at_least, of551}

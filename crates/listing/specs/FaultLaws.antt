@@ -5,7 +5,8 @@ use Rattle.std.proofs.Math.Path.{ap}
 use Rattle.std.proofs.Math.Bool.{false}
 use Rattle.std.proofs.lemmas.Bool.{false≢true, not-false}
 use Rattle.octets.specs.Search.{first, any}
-use Rattle.octets.specs.SearchLaws.{Seeking, cursor_more, first-lowest, first-agree, none-at, any_none, any-agree, any-or, finds, misses}
+use Rattle.octets.proofs.SearchLaws.{first-lowest, none-at, any_none, any-or}
+use Rattle.octets.specs.SearchLaws.{Seeking, cursor_more, first-agree, any-agree, finds, misses}
 use Rattle.octets.specs.Octets.{le32}
 use Rattle.octets.specs.Texts.{text_of, text_at, name_at, outside}
 use Rattle.octets.specs.declared.Name.{Name}

@@ -12,7 +12,7 @@ use borrow.Author.Tests.{lt-ltb, eq-eqb, eqb-true, ltb-false, not-false, le-leb}
 use Rattle.std.proofs.Math.Seq.{take-add, take-length}
 use Rattle.octets.specs.Octets.{part}
 use Rattle.octets.specs.Search.{any}
-use Rattle.octets.specs.SearchLaws.{none-at}
+use Rattle.octets.proofs.SearchLaws.{none-at}
 use Rattle.octets.specs.Texts.{outside}
 use Rattle.octets.specs.declared.Text.{Text}
 use Rattle.octets.specs.Gather.{gather}

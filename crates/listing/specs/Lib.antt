@@ -6,7 +6,6 @@ pub mod HeaderLaws
 pub mod Refusals
 pub mod ReasonLaws
 pub mod RefusalLaws
-pub mod FurtherLaws
 pub mod FormatLaws
 pub mod ListingLaws
 pub mod FaultLaws

@@ -1,20 +1,19 @@
 -- What an accepted listing of edition 1 is: FormatLaws, and the octets of its header.
 use Prim.Native.Nat.{ℕ, zero, suc, ◌+◌, ◌*◌, ◌<◌, ◌≤◌}
-use Rattle.std.specs.Prelude.{◌≡◌, List, ◌++◌, true, false, length, take, get_or}
+use Rattle.std.specs.Prelude.{◌≡◌, List, ◌++◌, true, length, take, get_or}
 use Rattle.std.proofs.Math.Path.{sym}
 use Rattle.std.proofs.Common.{◌∙◌, subst, append_assoc, arith}
 use Rattle.octets.specs.Octets.{le32}
-use Rattle.octets.specs.Texts.{outside}
 use Rattle.octets.specs.Gather.{gather}
 use Rattle.octets.specs.GatherLaws.{gather-agree}
 use Rattle.listing.specs.Listing.{row, most, version, total, count, offset, start, table, rows}
 use Rattle.listing.specs.TableLaws.{row_some_in, tables-seven}
 use Rattle.listing.specs.Header.{start_of, two, pair, pairs, header}
 use Rattle.listing.specs.HeaderLaws.{start-read, pairs-back}
-use Rattle.listing.specs.Refusals.{Reason, ill, faulty_row, bad_contents, reasons_in, outcome, is_accepted}
+use Rattle.listing.specs.Refusals.{Reason, reasons_in, outcome, is_accepted}
 use Rattle.listing.specs.ReasonLaws.{Free}
 use Rattle.listing.specs.RefusalLaws.{reasons_in_lem, accepted-exactly}
-use Rattle.listing.specs.FormatLaws.{count-most_in, offset_start_in, final_end_in, table_length_in, table-rows_in, header_and_tables_in, no_bad_row_in, no_ill_row_in, none-flagged, header_room_in, version_in, total_in}
+use Rattle.listing.specs.FormatLaws.{count-most_in, offset_start_in, final_end_in, table_length_in, table-rows_in, header_and_tables_in, header_room_in, version_in, total_in}
 use Rattle.listing.specs.declared.Format.TheVariants.{Edition1}
 
 pub row-some : (k : ℕ) → 1 ≤ k → k ≤ 7 → 0 < row k
@@ -50,19 +49,6 @@ module _ (s : List ℕ) (a : is_accepted (outcome s) ≡ true) where
 
   pub listing_whole : s ≡ take 64 s ++ table s 1 ++ table s 2 ++ table s 3 ++ table s 4 ++ table s 5 ++ table s 6 ++ table s 7
   listing_whole = sym header_and_tables ∙ simp ((tables-seven s).none, append_assoc)
-
-  -- no row has a text outside the names, or one that is not well-formed, and no flag of the contents is at fault
-  pub no_bad_row : (k i : ℕ) → 1 ≤ k → k ≤ 6 → i < rows k (table s k) → faulty_row Edition1 (outside (length (table s 7))) k (table s k) i ≡ false
-  unfolding rows table
-  no_bad_row k i l h = no_bad_row_in Edition1 s free k i l (omega arith)
-
-  pub no_ill_row : (k i : ℕ) → 1 ≤ k → k ≤ 6 → i < rows k (table s k) → faulty_row Edition1 (ill (table s 7)) k (table s k) i ≡ false
-  unfolding rows table
-  no_ill_row k i l h = no_ill_row_in Edition1 s free k i l (omega arith)
-
-  pub no_bad_contents : (i : ℕ) → i < rows 2 (table s 2) → bad_contents (table s 2) i ≡ false
-  unfolding rows table
-  no_bad_contents = none-flagged Edition1 s free
 
   -- the header is whole, of version 1, and says the length
   pub header-room : 64 ≤ length s

@@ -9,7 +9,7 @@ use Rattle.std.proofs.lemmas.Bool.{eqb-false}
 use Rattle.std.proofs.Math.ListN.{length, get_or-eq_default}
 use Rattle.octets.specs.Octets.{part}
 use Rattle.octets.specs.Search.{first}
-use Rattle.octets.specs.SearchLaws.{first-lowest}
+use Rattle.octets.proofs.SearchLaws.{first-lowest}
 use Rattle.octets.specs.Slices.{nth}
 use Rattle.listing.specs.Formats.{row, text_base, text_count, metadata_row, metadata_base, metadata_texts, longest, table_count, row_in, base_in, texts_in}
 use Rattle.listing.specs.Listing.{count, offset, table_in, tables_in, table, tables_of, numbered}

@@ -1,4 +1,4 @@
--- The cases of the definitions, in the shape in which needs ask for them.
+-- The cases of the definitions, in the shape in which goals ask for them.
 use Prim.Native.Nat.{ℕ, ◌/◌, ◌<◌}
 use mathlib.Core.Path.{◌≡◌, refl, sym, ap, ◌∙◌}
 use mathlib.Core.Bool.{Bool, true, false, cond, not}
@@ -7,7 +7,7 @@ use borrow.Author.Tests.{ne_eqb, not-false}
 use lib.Dec.{ltb}
 use lib.ListN.{length}
 use Rattle.octets.specs.Search.{first, any}
-use Rattle.octets.specs.SearchLaws.{none-at}
+use Rattle.octets.proofs.SearchLaws.{none-at}
 use Rattle.octets.specs.Octets.{part}
 use Rattle.octets.specs.Slices.{nth}
 use Rattle.octets.specs.Texts.{There, Null, reads}

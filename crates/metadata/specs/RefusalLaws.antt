@@ -4,7 +4,7 @@ use Rattle.listing.specs.Listing.{layout}
 use Rattle.listing.specs.Refusals.{Reason, header_reasons, row_reasons, reasons_in, outcome, number_of, is_accepted}
 use Rattle.listing.specs.ReasonLaws.{number_at, numbers_of, answer_by, Free, Given}
 use Rattle.listing.specs.RefusalLaws.{reasons}
-use Rattle.listing.specs.FurtherLaws.{further_refused, further_exactly, further_place, further_accepted, further_listing, further_free}
+use Rattle.listing.proofs.FurtherLaws.{further_refused, further_exactly, further_place, further_accepted, further_listing, further_free}
 use Rattle.listing.specs.declared.Format.TheVariants.{Metadata}
 use Rattle.listing.specs.declared.Outcome.TheVariants.{Accepted, Refused}
 use Rattle.metadata.specs.Refusals.{metadata_outcome}

@@ -29,7 +29,7 @@ fn say_outcome(rt: &impl Print, outcome: Outcome) -> io::Result<()> {
     }
 }
 
-// The listing whose length stands at a place; answers the place after it, or the end where there is none whole.
+// The listing whose length stands at a place; answers the place after it, or the end where there is none whole. The one error is a failed print, which leaves what is lent as it was.
 fn read_one(rt: &impl Print, input: &[u8], at: usize, end: usize) -> io::Result<usize>
     requires { at < end }
     ensures { IfOk result (λ next. (at < next) × (next ≤ end)) }

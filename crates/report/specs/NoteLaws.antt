@@ -1,4 +1,4 @@
--- The walk over the codes of the metadata, in the shape in which needs ask for it.
+-- The walk over the codes of the metadata, in the shape in which goals ask for it.
 use Rattle.std.specs.Prelude.{ℕ, ◌+◌, ◌^◌, ◌<◌, ◌≤◌, ◌≡◌, refl, List, length}
 use Rattle.std.proofs.Math.Path.{sym, subst}
 use Rattle.std.proofs.Common.{ap, ◌∙◌, append-nil, le_antisymm, arith}

@@ -23,7 +23,7 @@ use Rattle.findings.specs.Answers.{findings_by, reported, fail_or, without_findi
 use Rattle.findings.specs.ColumnAnswers.{column_reported}
 use Rattle.findings.specs.Schemes.{Scheme, findings_of}
 use Rattle.findings.specs.MetadataAnswers.{metadata_scheme, metadata_reported}
-use Rattle.findings.specs.RulingLaws.{kind, ruled-kind, verdict_unlisted as unlisted, verdict_turned, verdict_judged}
+use Rattle.findings.proofs.RulingLaws.{kind, ruled-kind, verdict_unlisted as unlisted, verdict_turned, verdict_judged}
 use Rattle.findings.specs.WordLaws.{buffer-none}
 use Rattle.findings.specs.OrderLaws.{Numbered}
 use Rattle.findings.specs.Words.{room, written_of}

@@ -1,4 +1,4 @@
--- What an index finds is what the rule of 541 says; and a walk over rows, in the shape in which needs ask for it.
+-- What an index finds is what the rule of 541 says; and a walk over rows, in the shape in which goals ask for it.
 use Rattle.std.specs.Prelude.{ℕ, zero, suc, ◌+◌, ◌^◌, ◌<◌, ◌≤◌, ◌≡◌, refl, List, [], Bool, true, length}
 use Rattle.std.proofs.Common.{zero-le, sym, ap, ◌∙◌, subst, le_antisymm, add-one-le, arith, length-append}
 use Rattle.octets.specs.Gather.{gather}

@@ -1,4 +1,4 @@
--- What tests say that the code makes one after the other, in the shape in which needs ask for it.
+-- What tests say that the code makes one after the other, in the shape in which goals ask for it.
 use Prim.Native.Nat.{ℕ, ◌+◌, ◌<◌, ◌≤◌}
 use mathlib.Core.Path.{◌≡◌, sym, ap, ◌∙◌}
 use mathlib.Core.Bool.{Bool, true, false, not, ◌&&◌, ◌||◌, and-eq-true_iff, and-false, and-true}

@@ -7,7 +7,7 @@ use Rattle.std.proofs.lemmas.Bool.{false≢true}
 use Rattle.std.proofs.Math.Nat.{le_antisymm}
 use borrow.Author.Tests.{lt-ltb, ltb-true, ltb-false, eq-eqb, eqb-true, not-true, not-false}
 use Rattle.octets.specs.Search.{first, any}
-use Rattle.octets.specs.SearchLaws.{first-lowest, seek_hit, any_some, any_none}
+use Rattle.octets.proofs.SearchLaws.{first-lowest, seek_hit, any_some, any_none}
 use Rattle.spelling.specs.Characters.{between}
 use Rattle.spelling.specs.ExtensionNames.{alphanumeric, underscore, name_octet, underscore_at, strange_at, first_underscore, inside, is_extension_name}
 

@@ -1,4 +1,4 @@
--- The laws of a look over rows, in the shape in which needs ask for them.
+-- The laws of a look over rows, in the shape in which goals ask for them.
 use Prim.Native.Nat.{ℕ, ◌+◌, ◌/◌, ◌<◌, ◌≤◌, zero-le}
 use mathlib.Core.Path.{◌≡◌, refl, sym, ap, ◌∙◌}
 use mathlib.Core.List.{List}

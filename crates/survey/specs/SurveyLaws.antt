@@ -8,8 +8,8 @@ use Rattle.std.proofs.Math.Dec.{ltb}
 use borrow.Author.Tests.{ltb-true, eqb-true}
 use Rattle.octets.specs.Numbers.{eq_z}
 use Rattle.octets.specs.Search.{first, any}
-use Rattle.octets.specs.SearchLaws.{first-lowest}
-use Rattle.octets.specs.TextLaws.{same_equal}
+use Rattle.octets.proofs.SearchLaws.{first-lowest}
+use Rattle.octets.proofs.TextLaws.{same_equal}
 use Rattle.pack.specs.Rows.{Rows, Content, Matrix, Tile, Extension, Pack, rows_in}
 use Rattle.rules.specs.Judgments.{none, some, lowest}
 use Rattle.rules.specs.Matrices.{matrix_named, at_level, tile_named, frees, breaks351, of351, of431}

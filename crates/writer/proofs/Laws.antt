@@ -1,4 +1,4 @@
--- The cases of the definitions, in the shape in which needs ask for them.
+-- The cases of the definitions, in the shape in which goals ask for them.
 use Prim.Native.Nat.{ℕ, zero, suc, ◌+◌, ◌%◌, ◌^◌, ◌<◌, ◌≤◌}
 use mathlib.Core.Path.{◌≡◌, refl, sym, ap, ◌∙◌}
 use mathlib.Core.List.{List, [], ◌∷◌, ◌++◌}
@@ -31,7 +31,8 @@ use Rattle.listing.specs.declared.Format.TheVariants.{Edition1}
 use Rattle.writer.specs.Parts.{size_of, count_of, measured, numbers, joined, written}
 use Rattle.writer.specs.PartLaws.{Sized, size_small, count_small, written-length}
 use Rattle.writer.specs.Writing.{ragged, crowded, flawed, size_reasons, short_reason, write_reasons, room_answer, sized_answer, write_answer, given_of, WriteOf}
-use Rattle.writer.specs.WriteLaws.{sized, octets-sized, octets-fit}
+use Rattle.writer.proofs.WriteLaws.{octets-fit}
+use Rattle.writer.specs.WriteLaws.{sized, octets-sized}
 use Rattle.writer.specs.declared.Measure.{Measure}
 use Rattle.writer.specs.declared.Measure.TheVariants as measure
 use Rattle.writer.specs.declared.Flaw.{Flaw}

@@ -11,7 +11,7 @@ use Rattle.std.proofs.Math.ListN.{length}
 use Rattle.octets.specs.Octets.{part}
 use Rattle.octets.specs.BufferLaws.{part-between}
 use Rattle.octets.specs.Search.{first}
-use Rattle.octets.specs.SearchLaws.{first-lowest}
+use Rattle.octets.proofs.SearchLaws.{first-lowest}
 use Rattle.octets.specs.Gather.{gather}
 use Rattle.octets.specs.GatherLaws.{gather-around}
 use Rattle.listing.specs.Listing.{row, most, count, offset, start, table, rows}

@@ -12,20 +12,19 @@ use borrow.Author.Tests.{lt-ltb, le-ltb, eq-eqb, eqb-true, ltb-false, not-false}
 use Rattle.std.proofs.Math.ListN.{length}
 use Rattle.octets.specs.Octets.{filled}
 use Rattle.octets.specs.Search.{first, any}
-use Rattle.octets.specs.SearchLaws.{none-at, any_none}
+use Rattle.octets.proofs.SearchLaws.{none-at, any_none}
 use Rattle.octets.specs.Gather.{gather}
 use Rattle.listing.specs.Listing.{row, most, version, total, offset, start, table, rows, layout}
 use Rattle.listing.specs.TableLaws.{Seven}
 use Rattle.listing.specs.Header.{start_of}
 use Rattle.listing.specs.HeaderLaws.{version-read, total-read, count-read}
 use Rattle.listing.specs.Refusals.{over, moved, header_reasons, row_reasons, decide_by, decide, outcome, is_accepted}
-use Rattle.listing.specs.ReasonLaws.{number_at, numbers_of, place_in, distinct, apart_by, answer_by, Free, Given, given_or_none, free-left, free-right, free-both, decide_stop, decide-none, decide-both, decide-turned, Apart, given-exactly, none-given, good-exactly}
-use Rattle.listing.specs.RefusalLaws.{accepted-exactly}
+use Rattle.listing.specs.ReasonLaws.{number_at, numbers_of, place_in, distinct, apart_by, answer_by, Free, Given, given_or_none, decide_stop, decide-none, decide-both, decide-turned, Apart, given-exactly, none-given, good-exactly}
 use Rattle.listing.specs.declared.Outcome.{Outcome}
 use Rattle.listing.specs.declared.Outcome.TheVariants as reader
 use Rattle.listing.specs.declared.Format.TheVariants.{Edition1}
 use Rattle.writer.specs.Parts.{size_of, count_of, joined, written}
-use Rattle.writer.specs.PartLaws.{Sized, written-length, written-most, start_small, count_small, offset-written, start-written, tables-written, tables-sized, written_back}
+use Rattle.writer.specs.PartLaws.{Sized, written-length, written-most, start_small, count_small, offset-written, start-written, tables-written, written_back}
 use Rattle.writer.specs.Writing.{ragged, crowded, size_reasons, short_reason, write_reasons, room_answer, write_answer, number_in, octets_in, given_of, WriteOf}
 use Rattle.writer.specs.declared.Written.{Written}
 use Rattle.writer.specs.declared.Written.TheVariants.{Octets, Refused}
@@ -145,7 +144,7 @@ module _ (ps : ℕ → List ℕ) (v : Seven ps) (w : Sized ps) where
 
 -- ---- a listing that is written
 -- whether it is one
-abbrev is_written : Written → Bool
+abbrev pub is_written : Written → Bool
 is_written (Octets n) = true
 is_written (Refused a b c) = false
 
@@ -154,29 +153,16 @@ module _ (ps : ℕ → List ℕ) (room n : ℕ) (e : write_answer ps room ≡ Oc
   unfolding write_answer
   none = (good-exactly Refused is_written (λ n t r. refl) (write_reasons ps room) (Octets (length (written ps))) refl).0 (ap is_written e)
 
-  rest : Free (row_reasons Edition1 ps ++ (short_reason ps room ∷ []))
-  unfolding write_reasons
-  rest = free-right (size_reasons ps) (row_reasons Edition1 ps ++ (short_reason ps room ∷ [])) none
-
   -- so many octets: the listing's
   pub octets-written : n ≡ length (written ps)
   unfolding write_answer
   octets-written = ap octets_in (sym e ∙ decide-none Refused (write_reasons ps room) (Octets (length (written ps))) none)
-
-  pub octets-fit : length (written ps) ≤ room
-  octets-fit = ltb-false room (length (written ps)) (free-right (row_reasons Edition1 ps) (short_reason ps room ∷ []) rest 0)
 
   pub octets-sized : ps 0 ≡ [] → Sized ps
   unfolding write_reasons size_reasons
   octets-sized z = sized ps z (none 0) (none 1)
 
   module _ (v : Seven ps) where
-    -- "what it writes, the reader accepts with the same rows and names"
-    pub reader_accepts : outcome (written ps) ≡ reader.Accepted (layout (written ps))
-    reader_accepts =
-        rows-decide ps v (octets-sized v.none)
-        ∙ decide-none reader.Refused (row_reasons Edition1 ps) (reader.Accepted (layout (written ps))) (free-left (row_reasons Edition1 ps) (short_reason ps room ∷ []) rest)
-
     pub reader_tables : table (written ps) ≡ ps
     reader_tables = tables-written ps v (octets-sized v.none)
 
@@ -188,20 +174,6 @@ module _ (s : List ℕ) (a : is_accepted (outcome s) ≡ true) (p : (k : ℕ) �
   -- "parts taken from an accepted listing write back to the same octets"
   pub writes_back : written (table s) ≡ s
   writes_back = written_back s a p
-
-  short : (room : ℕ) → length s ≤ room → Free (short_reason (table s) room ∷ [])
-  short room l zero = le-ltb room (length (written (table s))) (subst (λ (n : ℕ). n ≤ room) (sym (ap length writes_back)) l)
-  short room l (suc i) = refl
-
-  free : (room : ℕ) → length s ≤ room → Free (write_reasons (table s) room)
-  unfolding write_reasons
-  free room l =
-      free-both (size_reasons (table s)) (row_reasons Edition1 (table s) ++ (short_reason (table s) room ∷ [])) (sizes-none (table s) (tables-sized s a))
-      (free-both (row_reasons Edition1 (table s)) (short_reason (table s) room ∷ []) (free-right (header_reasons Edition1 s) (row_reasons Edition1 (table s)) ((accepted-exactly s).0 a)) (short room l))
-
-  pub writes_all : (room : ℕ) → length s ≤ room → write_answer (table s) room ≡ Octets (length s)
-  unfolding write_answer
-  writes_all room l = decide-none Refused (write_reasons (table s) room) (Octets (length (written (table s)))) (free room l) ∙ ap (λ (n : ℕ). Octets n) (ap length writes_back)
 
 -- ---- each reason exactly
 -- they are these six, in this order

@@ -1,5 +1,6 @@
 -- `octets::equal` meets its contract.
-use Rattle.octets.specs.TextLaws.{unlike-length, unlike_eight, alike-start, alike_eight}
+use Rattle.octets.proofs.TextLaws.{unlike-length, unlike_eight}
+use Rattle.octets.specs.TextLaws.{alike-start, alike_eight}
 use borrow.Author.Rules.{rules}
 use Rattle.octets.proofs.equal.Goals as goal
 

@@ -1,5 +1,6 @@
 -- `octets::equal_from` meets its contract.
-use Rattle.octets.specs.TextLaws.{unlike-octet, alike-octet, alike_end}
+use Rattle.octets.proofs.TextLaws.{unlike-octet, alike_end}
+use Rattle.octets.specs.TextLaws.{alike-octet}
 use borrow.Author.Rules.{rules}
 use Rattle.octets.proofs.equal_from.Goals as goal
 

@@ -1,5 +1,5 @@
 -- `octets::same_name` meets its contract.
-use Rattle.octets.specs.TextLaws.{same_place}
+use Rattle.octets.proofs.TextLaws.{same_place}
 use borrow.Author.Rules.{rules}
 use Rattle.octets.proofs.same_name.Goals as goal
 

@@ -1,5 +1,5 @@
 -- `columns::entries::first_faulty` meets its contract.
-use Rattle.octets.specs.SearchLaws.{seeks}
+use Rattle.octets.proofs.SearchLaws.{seeks}
 use Rattle.utf8.specs.MarkLaws.{marks_none}
 use Rattle.columns.proofs.Laws.{skip_on, skip_next}
 use borrow.Author.Rules.{rules}

@@ -1,5 +1,5 @@
 -- `index::contents/first_spelled` meets its contract.
-use Rattle.octets.specs.SearchLaws.{seeks}
+use Rattle.octets.proofs.SearchLaws.{seeks}
 use Rattle.index.proofs.contents.first_spelled.Goals as goal
 
 pub loop-i-init : goal.loop-i-init

@@ -1,5 +1,5 @@
 -- `index::keys/first_answer` meets its contract.
-use Rattle.octets.specs.SearchLaws.{seeks}
+use Rattle.octets.proofs.SearchLaws.{seeks}
 use Rattle.index.proofs.keys.first_answer.Goals as goal
 
 pub loop-i-init : goal.loop-i-init

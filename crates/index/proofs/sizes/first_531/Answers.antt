@@ -1,5 +1,5 @@
 -- `index::sizes/first_531` meets its contract.
-use Rattle.octets.specs.SearchLaws.{seeks}
+use Rattle.octets.proofs.SearchLaws.{seeks}
 use Rattle.index.proofs.sizes.first_531.Goals as goal
 
 pub loop-i-init : goal.loop-i-init

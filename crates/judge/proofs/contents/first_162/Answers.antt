@@ -1,5 +1,5 @@
 -- `judge::contents/first_162` meets its contract.
-use Rattle.octets.specs.SearchLaws.{seeks}
+use Rattle.octets.proofs.SearchLaws.{seeks}
 use Rattle.judge.proofs.contents.first_162.Goals as goal
 
 pub loop-i-init : goal.loop-i-init

@@ -1,5 +1,5 @@
 -- `listing::header/first_moved` meets its contract.
-use Rattle.octets.specs.SearchLaws.{seeks}
+use Rattle.octets.proofs.SearchLaws.{seeks}
 use Rattle.listing.proofs.Laws.{seek-all, past_last, moved_none}
 use borrow.Author.Rules.{rules}
 use Rattle.listing.proofs.header.first_moved.Goals as goal

@@ -1,5 +1,5 @@
 -- `listing::header/first_over` meets its contract.
-use Rattle.octets.specs.SearchLaws.{seeks}
+use Rattle.octets.proofs.SearchLaws.{seeks}
 use Rattle.listing.proofs.Laws.{seek-all, past_last, over_none}
 use borrow.Author.Rules.{rules}
 use Rattle.listing.proofs.header.first_over.Goals as goal

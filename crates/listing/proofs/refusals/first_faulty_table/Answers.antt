@@ -1,5 +1,5 @@
 -- `listing::refusals/first_faulty_table` meets its contract.
-use Rattle.octets.specs.SearchLaws.{seeks}
+use Rattle.octets.proofs.SearchLaws.{seeks}
 use Rattle.listing.proofs.Laws.{seek-tables, faulty_table-none}
 use borrow.Author.Rules.{rules}
 use Rattle.listing.proofs.refusals.first_faulty_table.Goals as goal

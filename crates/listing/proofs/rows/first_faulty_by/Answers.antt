@@ -1,5 +1,6 @@
 -- `listing::rows/first_faulty_by` meets its contract.
-use Rattle.octets.specs.SearchLaws.{seeks, cursors}
+use Rattle.octets.proofs.SearchLaws.{seeks}
+use Rattle.octets.specs.SearchLaws.{cursors}
 use Rattle.listing.specs.FaultLaws.{roomy-same, passed_on}
 use Rattle.listing.proofs.Laws.{room-step, room-place, room_texts, faulty_row_lem}
 use borrow.Author.Rules.{rules}

@@ -1,5 +1,6 @@
 -- `listing::rows/first_flagged` meets its contract.
-use Rattle.octets.specs.SearchLaws.{seeks, cursors}
+use Rattle.octets.proofs.SearchLaws.{seeks}
+use Rattle.octets.specs.SearchLaws.{cursors}
 use Rattle.listing.proofs.Laws.{second-some, flags-inside}
 use Rattle.listing.proofs.rows.first_flagged.Goals as goal
 

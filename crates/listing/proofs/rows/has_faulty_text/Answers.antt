@@ -1,5 +1,5 @@
 -- `listing::rows/has_faulty_text` meets its contract.
-use Rattle.octets.specs.SearchLaws.{seeks}
+use Rattle.octets.proofs.SearchLaws.{seeks}
 use Rattle.listing.proofs.rows.has_faulty_text.Goals as goal
 
 pub loop-j-init : goal.loop-j-init

@@ -1,5 +1,6 @@
 -- `metadata::judging/first_id` meets its contract.
-use Rattle.octets.specs.SearchLaws.{cursor_start, cursor_more, seek_hit, seek-end}
+use Rattle.octets.proofs.SearchLaws.{seek_hit}
+use Rattle.octets.specs.SearchLaws.{cursor_start, cursor_more, seek-end}
 use Rattle.metadata.proofs.judging.first_id.Goals as goal
 
 pub loop-at-init : goal.loop-at-init

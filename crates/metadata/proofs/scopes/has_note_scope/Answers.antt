@@ -1,5 +1,5 @@
 -- `metadata::scopes/has_note_scope` meets its contract.
-use Rattle.octets.specs.SearchLaws.{seeks}
+use Rattle.octets.proofs.SearchLaws.{seeks}
 use Rattle.metadata.proofs.scopes.has_note_scope.Goals as goal
 
 pub loop-k-init : goal.loop-k-init

@@ -1,5 +1,5 @@
 -- `metadata::tables/accept` meets its contract.
-use Rattle.listing.specs.FurtherLaws.{answer-refused, answer_fault, answer-clean}
+use Rattle.listing.proofs.FurtherLaws.{answer-refused, answer_fault, answer-clean}
 use Rattle.metadata.specs.Refusals.{metadata_outcome}
 use borrow.Author.Rules.{rules}
 use Rattle.metadata.proofs.tables.accept.Goals as goal

@@ -1,5 +1,6 @@
 -- `seek::matrices/first_matrix` meets its contract.
-use Rattle.octets.specs.SearchLaws.{cursor_start, cursor_more, seek_hit, seek-end}
+use Rattle.octets.proofs.SearchLaws.{seek_hit}
+use Rattle.octets.specs.SearchLaws.{cursor_start, cursor_more, seek-end}
 use Rattle.seek.proofs.matrices.first_matrix.Goals as goal
 
 pub loop-at-init : goal.loop-at-init

@@ -1,5 +1,6 @@
 -- `seek::references/first_id` meets its contract.
-use Rattle.octets.specs.SearchLaws.{cursor_start, cursor_more, seek_hit, seek-end}
+use Rattle.octets.proofs.SearchLaws.{seek_hit}
+use Rattle.octets.specs.SearchLaws.{cursor_start, cursor_more, seek-end}
 use Rattle.seek.proofs.references.first_id.Goals as goal
 
 pub loop-at-init : goal.loop-at-init

@@ -1,5 +1,6 @@
 -- `seek::tiles::first_at` meets its contract.
-use Rattle.octets.specs.SearchLaws.{seek_hit, seek-end}
+use Rattle.octets.proofs.SearchLaws.{seek_hit}
+use Rattle.octets.specs.SearchLaws.{seek-end}
 use Rattle.seek.specs.ScanLaws.{at-start, at_more}
 use borrow.Author.Rules.{rules}
 use Rattle.seek.proofs.tiles.first_at.Goals as goal

@@ -1,5 +1,6 @@
 -- `seek::tiles::first_of_name` meets its contract.
-use Rattle.octets.specs.SearchLaws.{cursor_start, cursor_more, seek_hit, seek-end}
+use Rattle.octets.proofs.SearchLaws.{seek_hit}
+use Rattle.octets.specs.SearchLaws.{cursor_start, cursor_more, seek-end}
 use Rattle.seek.proofs.tiles.first_of_name.Goals as goal
 
 pub loop-at-init : goal.loop-at-init

@@ -1,5 +1,5 @@
 -- `spelling::case::has_unlike` meets its contract.
-use Rattle.octets.specs.SearchLaws.{seeks}
+use Rattle.octets.proofs.SearchLaws.{seeks}
 use Rattle.spelling.proofs.case.has_unlike.Goals as goal
 
 pub loop-i-init : goal.loop-i-init

@@ -1,5 +1,5 @@
 -- `spelling::dates::has_misfit` meets its contract.
-use Rattle.octets.specs.SearchLaws.{seeks}
+use Rattle.octets.proofs.SearchLaws.{seeks}
 use Rattle.spelling.proofs.dates.has_misfit.Goals as goal
 
 pub loop-i-init : goal.loop-i-init

@@ -1,5 +1,5 @@
 -- `spelling::names::first_underscore` meets its contract.
-use Rattle.octets.specs.SearchLaws.{seeks}
+use Rattle.octets.proofs.SearchLaws.{seeks}
 use Rattle.spelling.proofs.names.first_underscore.Goals as goal
 
 pub loop-i-init : goal.loop-i-init

@@ -1,5 +1,6 @@
 -- `writer::refusals::first_flawed` meets its contract.
-use Rattle.octets.specs.SearchLaws.{seeks, seek-one}
+use Rattle.octets.proofs.SearchLaws.{seeks}
+use Rattle.octets.specs.SearchLaws.{seek-one}
 use Rattle.writer.proofs.Laws.{flawed-none}
 use borrow.Author.Rules.{rules}
 use Rattle.writer.proofs.refusals.first_flawed.Goals as goal

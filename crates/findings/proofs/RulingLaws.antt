@@ -24,7 +24,7 @@ use Rattle.findings.specs.Schemes.{table_by}
 use Rattle.findings.specs.Answers.{reported, fail_or, always_testable, without_finding, ruled, verdict_of}
 use Rattle.findings.specs.Words.{ruling_words}
 use Rattle.findings.specs.Demands.{Stands, Listed, Asked, LowestRow, NoFinding, Testable}
-use Rattle.findings.specs.VerdictLaws.{verdict_of-list, fail_found, found_fail}
+use Rattle.findings.proofs.VerdictLaws.{verdict_of-list, fail_found, found_fail}
 use Rattle.findings.specs.StandsLaws.{only_stands, stands_only, ordered-only, head-lowest}
 use Rattle.findings.specs.ReportedLaws.{reported-judged, reported-exactly, reported-ordered}
 use Rattle.findings.specs.RefusedLaws.{number-other}
