@@ -39,9 +39,8 @@ DESTERLIN_LIBRARY may name another archive of it than {ARCHIVE.relative_to(ROOT)
 NO_BUILD_HELP = "do not build the proved library where it is missing"
 HOW_TO_BUILD = f"cd {shlex.quote(str(CRATE))} && {shlex.join(BUILD)}"
 
-# What rt says as it begins with a part, and of what it has not proved.
+# What rt says as it begins with a part.
 BEGUN = re.compile(r"rt: chose --jobs \d+ for (\w+)$")
-UNPROVED = re.compile(r"\w+ \S+: (?:not proved|no proof)\b|rt: the library \w+ did not build")
 
 # What a linker says of an archive that is older than the header.
 LACKS_A_CALL = re.compile(r"undefined (?:symbol|reference)\b.*\bdesterlin_")
@@ -162,7 +161,7 @@ def run_build(progress: Progress) -> None:
             running.terminate()
             raise
     if running.returncode != 0:
-        told_lines = [line for line in said if UNPROVED.match(line)] or said[-LAST_LINES:]
+        told_lines = [line for line in said if "did not build" in line] or said[-LAST_LINES:]
         words = f"the proved library cannot be built: {THE_BUILD} ended with status {running.returncode}\n"
         raise Trouble((words + "".join(told_lines)).rstrip())
 
