@@ -22,9 +22,10 @@ SOURCE = ROOT / "tools" / "call-library.c"
 HEADER = ROOT / "include" / "desterlin.h"
 CRATE = ROOT / "crates" / "desterlin"
 ARCHIVE = CRATE / "out" / "libdesterlin.a"
+IN_ROOT = CRATE.relative_to(ROOT)
 # In the folder of the crate.
 BUILD = ["rt", "lib"]
-THE_BUILD = f"{shlex.join(BUILD)} in {CRATE.relative_to(ROOT)}"
+THE_BUILD = f"{shlex.join(BUILD)} in {IN_ROOT}"
 BUILT = ROOT / "target" / "tools"
 FLAGS = ["-std=c99", "-O2", "-Wall", "-Wextra", "-Werror", f"-I{HEADER.parent}"]
 
@@ -33,7 +34,7 @@ LAST_LINES = 5
 
 # What the tools say of the library in their help.
 HELP = f"""\
-The proved library is built where it is missing, which takes some minutes, as by:  {THE_BUILD}
+The proved library is built where it is missing, which takes some minutes, as by:  cd {IN_ROOT} && {shlex.join(BUILD)}
 DESTERLIN_LIBRARY may name another archive of it than {ARCHIVE.relative_to(ROOT)}.
 """
 NO_BUILD_HELP = "do not build the proved library where it is missing"
