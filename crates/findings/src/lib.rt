@@ -1,8 +1,7 @@
 // What the calls answer. The definitions are in specs/.
-
-// What a verdict answers.
 #![tactic(auto)]
 
+// What a verdict answers.
 #[derive(Clone, Copy)]
 pub enum Ruling {
     Pass,

@@ -29,21 +29,35 @@ fn say_outcome(rt: &impl Print, outcome: Outcome) -> io::Result<()> {
     }
 }
 
-// The listing whose length stands at a place; answers the place after it, or the end where there is none whole. The one error is a failed print, which leaves what is lent as it was.
-fn read_one(rt: &impl Print, input: &[u8], at: usize, end: usize) -> io::Result<usize>
+// The place after the listing whose length stands at a place, or the end where there is none whole.
+fn read_one(input: &[u8], at: usize, end: usize) -> usize
     requires { at < end }
-    ensures { IfOk result (λ next. (at < next) × (next ≤ end)) }
+    ensures { (at < result) × (result ≤ end) }
 {
     if end - at < 4 {
-        return Ok(end);
+        return end;
     }
     let start = at + 4;
     let size = octets::u32_at(input, at) as usize;
     if end - start < size {
-        return Ok(end);
+        return end;
     }
-    say_outcome(rt, listing::accept(octets::part_of(input, start, size)))?;
-    Ok(start + size)
+    start + size
+}
+
+// What the reader says of the listing that stands there, up to the place after it; nothing where there is none whole.
+fn say_one(rt: &impl Print, input: &[u8], at: usize, next: usize) -> io::Result<()>
+    requires { at < next }
+{
+    if next - at < 4 {
+        return Ok(());
+    }
+    let start = at + 4;
+    let size = octets::u32_at(input, at) as usize;
+    if next - start < size {
+        return Ok(());
+    }
+    say_outcome(rt, listing::accept(octets::part_of(input, start, size)))
 }
 
 // How many octets of the input are now in the buffer. A pipe gives them in pieces, so one read is not enough.
@@ -66,7 +80,9 @@ fn read_all(rt: &(impl Input + Print), input: &mut [u8]) -> io::Result<()> {
     let end = read_input(rt, input)?;
     let mut at = 0;
     while at < end {
-        at = read_one(rt, input, at, end)?;
+        let next = read_one(input, at, end);
+        say_one(rt, input, at, next)?;
+        at = next;
     }
     Ok(())
 }
