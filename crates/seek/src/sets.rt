@@ -19,6 +19,7 @@ fn set_named(names: &[u8], x: Name, q: SetRow) -> bool
 }
 
 // The srs_id of a contents row is there, and is this one.
+#[tactic(auto, using(std::proofs::lemmas::Bool::Decides::nat_tests), unfolding(pack::specs::Tables::content_of))]
 fn is_id(names: &[u8], c: ContentsRow, id: u64) -> bool
     ensures { result ≡ is_id (content_of names.now c).srs_id (signed id) }
 {
