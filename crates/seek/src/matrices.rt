@@ -66,6 +66,7 @@ fn near_twice(names: &[u8], m: MatrixRow, q: MatrixRow) -> bool
     false
 }
 
+#[tactic(auto, using(crate::specs::TestLaws::tests), unfolding(rules::specs::Matrices::breaks351, pack::specs::Tables::matrix_of))]
 fn breaks_351(names: &[u8], m: MatrixRow, q: MatrixRow) -> bool
     ensures { result ≡ breaks351 (matrix_of names.now m) (matrix_of names.now q) }
 {
@@ -80,6 +81,7 @@ fn breaks_351(names: &[u8], m: MatrixRow, q: MatrixRow) -> bool
 
 // ---- 531
 
+#[tactic(auto, using(crate::specs::TestLaws::tests), unfolding(rules::specs::Matrices::finer, pack::specs::Tables::matrix_of))]
 fn is_finer(names: &[u8], m: MatrixRow, q: MatrixRow) -> bool
     ensures { result ≡ finer (matrix_of names.now m) (matrix_of names.now q) }
 {

@@ -28,11 +28,11 @@ returns-then-n-m c = search measuring
 
 pub overflow_mul-n : goal.overflow_mul-n
 unfolding in_float
-overflow_mul-n c = omega (arith, bounded _ _ c.if-m-eq0.false c.if-n-m.false)
+overflow_mul-n c = search (bounded, arith, rules)
 
 pub int_to_float-n : goal.int_to_float-n
 unfolding in_float
-int_to_float-n c = le→leb _ _ (bounded _ _ c.if-m-eq0.false c.if-n-m.false)
+int_to_float-n c = search (le→leb, bounded, arith, rules)
 
 pub is_same_length-requires : goal.is_same_length-requires
 unfolding in_float

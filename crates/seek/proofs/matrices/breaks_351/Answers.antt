@@ -5,10 +5,6 @@ use Rattle.rules.specs.Matrices.{breaks351}
 use borrow.Author.Rules.{rules}
 use Rattle.seek.proofs.matrices.breaks_351.Goals as goal
 
-pub is_next-requires : goal.is_next-requires
-unfolding breaks351 matrix_of
-is_next-requires c = search rules
-
 pub near_twice-requires : goal.near_twice-requires
 unfolding breaks351 matrix_of
 near_twice-requires c = search rules
@@ -20,10 +16,6 @@ returns-then-near_twice c = search tests
 pub matrix_named-requires : goal.matrix_named-requires
 unfolding breaks351 matrix_of
 matrix_named-requires c = search rules
-
-pub returns-then-is_next : goal.returns-then-is_next
-unfolding breaks351 matrix_of
-returns-then-is_next c = search tests fits 20000
 
 pub returns : goal.returns
 unfolding breaks351 matrix_of

@@ -9,14 +9,6 @@ pub is_finer-requires : goal.is_finer-requires
 unfolding finer matrix_of
 is_finer-requires c = search rules
 
-pub is_finer-requires-then-is_finer : goal.is_finer-requires-then-is_finer
-unfolding finer matrix_of
-is_finer-requires-then-is_finer c = search rules
-
-pub returns-then-is_finer : goal.returns-then-is_finer
-unfolding finer matrix_of
-returns-then-is_finer c = search tests
-
 pub returns : goal.returns
 unfolding finer matrix_of
 returns c = search tests
