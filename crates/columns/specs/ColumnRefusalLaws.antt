@@ -1,17 +1,15 @@
 -- The laws of the reasons of columns: each is given exactly when its fault is there and no earlier one is, and a refused listing is refused as by itself.
-use Rattle.std.specs.Prelude.{ℕ, ◌*◌, ◌^◌, ◌<◌, ◌≤◌, ◌≡◌, List, [], ◌∷◌, ◌++◌, Bool, true, false, ◌↔◌, length}
+use Rattle.std.specs.Prelude.{ℕ, ◌*◌, ◌^◌, ◌<◌, ◌≤◌, ◌≡◌, List, [], ◌∷◌, ◌++◌, Bool, true, false, ◌↔◌, length, Ok, Err}
 use Rattle.std.proofs.Math.Path.{refl}
 use Rattle.std.proofs.Common.{◌∙◌, le-ltb}
 use Rattle.octets.specs.Octets.{le64}
 use Rattle.octets.specs.Texts.{outside}
 use Rattle.listing.specs.Listing.{table, rows, layout}
-use Rattle.listing.specs.Refusals.{Reason, header_reasons, row_reasons, decide_by, decide, checked, outcome, number_of, is_accepted}
+use Rattle.listing.specs.Refusals.{Reason, Checked, number, header_reasons, row_reasons, decide_by, decide, checked, outcome, number_of, is_accepted}
 use Rattle.listing.specs.ReasonLaws.{number_at, numbers_of, answer_by, Free, Given, free-left, free-right, decide-both, decide_stop, decide-none, decide_fault, number-exactly, good-exactly}
 use Rattle.listing.specs.RefusalLaws.{reasons, accepted-exactly}
 use Rattle.listing.proofs.FurtherLaws.{listing_said, further_refused, further_rest, further_exactly, further_place, further_accepted, further_listing}
-use Rattle.listing.specs.declared.Checked.{Checked}
-use Rattle.listing.specs.declared.Checked.TheVariants.{Clean, Fault}
-use Rattle.listing.specs.declared.Outcome.TheVariants.{Accepted, Refused}
+use Rattle.listing.specs.declared.Refusal.{Refusal}
 use Rattle.columns.specs.Refusals.{is_short, short_reason, entry_text, faulty_entry, entry_reasons, column_reasons, column_outcome, fill_reasons, fill_answer}
 
 -- ---- the listing first
@@ -22,22 +20,22 @@ module _ (s : List ℕ) where
     unfolding column_outcome
     refused-same = further_refused s (column_reasons (table s 5) (table s 7) cs)
 
-    pub fill_same : (n t i : ℕ) → outcome s ≡ Refused n t i → fill_answer s cs ≡ Fault n t i
+    pub fill_same : (e : Refusal) → outcome s ≡ Err e → fill_answer s cs ≡ Err e
     unfolding checked fill_answer fill_reasons
-    fill_same n t i e =
-        decide-both Fault (reasons s) (short_reason (rows 5 (table s 5)) cs ∷ []) Clean
-        ∙ decide_fault Fault (reasons s) (decide_by Fault (short_reason (rows 5 (table s 5)) cs ∷ []) Clean) n t i (listing_said s n t i e)
+    fill_same x e =
+        decide-both Err (reasons s) (short_reason (rows 5 (table s 5)) cs ∷ []) (Ok tt)
+        ∙ decide_fault Err (reasons s) (decide_by Err (short_reason (rows 5 (table s 5)) cs ∷ []) (Ok tt)) x (listing_said s x e)
 
     -- of an accepted listing the columns decide
-    pub column-rest : is_accepted (outcome s) ≡ true → column_outcome s cs ≡ decide (column_reasons (table s 5) (table s 7) cs) (Accepted (layout s))
+    pub column-rest : is_accepted (outcome s) ≡ true → column_outcome s cs ≡ decide (column_reasons (table s 5) (table s 7) cs) (Ok (layout s))
     unfolding column_outcome
     column-rest = further_rest s (column_reasons (table s 5) (table s 7) cs)
 
     pub fill_rest : is_accepted (outcome s) ≡ true → fill_answer s cs ≡ checked (short_reason (rows 5 (table s 5)) cs ∷ [])
     unfolding checked fill_answer fill_reasons
     fill_rest a =
-        decide-both Fault (reasons s) (short_reason (rows 5 (table s 5)) cs ∷ []) Clean
-        ∙ decide-none Fault (reasons s) (decide_by Fault (short_reason (rows 5 (table s 5)) cs ∷ []) Clean) ((accepted-exactly s).0 a)
+        decide-both Err (reasons s) (short_reason (rows 5 (table s 5)) cs ∷ []) (Ok tt)
+        ∙ decide-none Err (reasons s) (decide_by Err (short_reason (rows 5 (table s 5)) cs ∷ []) (Ok tt)) ((accepted-exactly s).0 a)
 
 -- ---- each reason in its order; 7 and 13 stand twice, so a reason is told by its place in the list
 -- "the listing's to 13; 14 ..; then, not in the fill, 7 and 13 for a column entry"
@@ -54,12 +52,12 @@ fill_numbers s cs = refl
 
 -- what a check says, as numbers: 0 where nothing is at fault
 abbrev pub number_said : Checked → ℕ
-number_said Clean = 0
-number_said (Fault n t i) = n
+number_said (Ok tt) = 0
+number_said (Err e) = number e.why
 
 abbrev pub is_clean : Checked → Bool
-is_clean Clean = true
-is_clean (Fault n t i) = false
+is_clean (Ok tt) = true
+is_clean (Err e) = false
 
 module _ (s : List ℕ) (cs : List (List ℕ)) where
   -- a number is given exactly where a reason of that number is there and none before it
@@ -68,7 +66,7 @@ module _ (s : List ℕ) (cs : List (List ℕ)) where
   refused-exactly = further_exactly s (column_reasons (table s 5) (table s 7) cs)
 
   -- and then with its place
-  pub refused-place : (k : ℕ) → Given (all_reasons s cs) k → column_outcome s cs ≡ answer_by Refused (all_reasons s cs) k (Accepted (layout s))
+  pub refused-place : (k : ℕ) → Given (all_reasons s cs) k → column_outcome s cs ≡ answer_by Err (all_reasons s cs) k (Ok (layout s))
   unfolding column_outcome
   refused-place = further_place s (column_reasons (table s 5) (table s 7) cs)
 
@@ -90,15 +88,15 @@ module _ (s : List ℕ) (cs : List (List ℕ)) where
   -- the fill's answer, likewise: "1 to 8, 13, 14 only"
   pub fill_exactly : (n : ℕ) → 0 < n → (number_said (fill_answer s cs) ≡ n) ↔ ((k : ℕ) × Given (fill_reasons s cs) k × (number_at (fill_reasons s cs) k ≡ n))
   unfolding checked fill_answer
-  fill_exactly n l = number-exactly Fault number_said (λ n t r. refl) (fill_reasons s cs) Clean n refl l
+  fill_exactly n l = number-exactly Err number_said (λ e. refl) (fill_reasons s cs) (Ok tt) n refl l
 
-  pub fill_place : (k : ℕ) → Given (fill_reasons s cs) k → fill_answer s cs ≡ answer_by Fault (fill_reasons s cs) k Clean
+  pub fill_place : (k : ℕ) → Given (fill_reasons s cs) k → fill_answer s cs ≡ answer_by Err (fill_reasons s cs) k (Ok tt)
   unfolding checked fill_answer
-  fill_place k g = decide_stop Fault (fill_reasons s cs) Clean k g.passed g.there
+  fill_place k g = decide_stop Err (fill_reasons s cs) (Ok tt) k g.passed g.there
 
   pub fill_clean : (is_clean (fill_answer s cs) ≡ true) ↔ Free (fill_reasons s cs)
   unfolding checked fill_answer
-  fill_clean = good-exactly Fault is_clean (λ n t r. refl) (fill_reasons s cs) Clean refl
+  fill_clean = good-exactly Err is_clean (λ e. refl) (fill_reasons s cs) (Ok tt) refl
 
   pub fill_listing : is_clean (fill_answer s cs) ≡ true → is_accepted (outcome s) ≡ true
   unfolding fill_reasons

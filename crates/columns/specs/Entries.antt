@@ -34,3 +34,18 @@ ClearEntry names c i = Clear names (le64 c (8 * i) / 4294967296) (le64 c (8 * i)
 pub record Cleared (names c : List ℕ) (start n r : ℕ) : Type 0 where
   pub low : start ≤ r
   pub on : (q : ℕ → Bool) → ((i : ℕ) → ClearEntry names c i → q (le64 c (8 * i)) ≡ false) → Seeking (λ i. q (le64 c (8 * i))) start n → Seeking (λ i. q (le64 c (8 * i))) r n
+
+-- number k stands in a block of 64, from a start on and before n, of which a test says no: `says i b` where it may answer b of the block that begins at i
+pub record Denied (says : ℕ → Bool → Type 0) (start n k : ℕ) : Type 0 where
+  pub at : ℕ
+  pub low : start ≤ at
+  pub high : at + 64 ≤ n
+  pub before : at ≤ k
+  pub past : k < at + 64
+  pub no : says at false
+
+-- and so does every number from the start up to r
+pub record Blocks (says : ℕ → Bool → Type 0) (start n r : ℕ) : Type 0 where
+  pub low : start ≤ r
+  pub high : r ≤ n
+  pub denied : (k : ℕ) → start ≤ k → k < r → Denied says start n k

@@ -1,5 +1,5 @@
 -- The laws of entries of the first column: what each spells, what is passed a block at a time, that a clear text has no fault, and 7 and 13 in one search.
-use Rattle.std.specs.Prelude.{ℕ, ◌+◌, ◌*◌, ◌-◌, ◌/◌, ◌%◌, ◌^◌, ◌<◌, ◌≤◌, max, ◌≡◌, Bool, cond, ◌&&◌, ◌||◌, ltb, eqb, length}
+use Rattle.std.specs.Prelude.{ℕ, ◌+◌, ◌*◌, ◌-◌, ◌/◌, ◌%◌, ◌^◌, ◌<◌, ◌≤◌, max, ◌≡◌, Bool, cond, ◌&&◌, ◌||◌, ltb, eqb, length, Some, None, Ok, Err}
 use Rattle.std.proofs.Math.Path.{refl, sym, ap}
 use Rattle.std.proofs.Common.{◌∙◌, subst, le_refl}
 use mathlib.Core.List.{List, []}
@@ -13,15 +13,13 @@ use Rattle.octets.proofs.SearchLaws.{none-at, any-or}
 use Rattle.octets.specs.SearchLaws.{first-agree, finds, misses}
 use Rattle.octets.specs.SkipLaws.{Skipped, side, skipped_join}
 use Rattle.octets.specs.Texts.{text_of, outside}
-use Rattle.octets.specs.declared.Text.{Text}
-use Rattle.octets.specs.declared.Text.TheVariants as text
+use Rattle.octets.specs.Texts.{Text}
 use Rattle.utf8.specs.Utf8.{well_formed}
 use Rattle.utf8.specs.WellFormedLaws.{well-none}
 use Rattle.utf8.specs.MarkLaws.{Clear}
-use Rattle.listing.specs.Refusals.{ill, checked}
+use Rattle.listing.specs.Refusals.{Checked, refusal, ill, checked}
 use Rattle.listing.specs.FaultLaws.{asked, ClearAt}
-use Rattle.listing.specs.declared.Checked.{Checked}
-use Rattle.listing.specs.declared.Checked.TheVariants.{Clean, Fault}
+use Rattle.listing.specs.declared.Why.TheVariants as why
 use Rattle.listing.specs.declared.TextFault.{TextFault}
 use Rattle.listing.specs.declared.TextFault.TheVariants.{Outside, Either}
 use Rattle.listing.specs.declared.TextOrder.TheVariants.{LengthFirst}
@@ -61,17 +59,17 @@ module _ (c : List ℕ) (start : ℕ) where
   skipped_block plain n i r h l w e = skipped_join (is_past c plain) start n i (i + 64) h (omega arith) (omega (arith, h.high)) (λ k s y. le-ltb plain (end_of (le64 c (8 * k))) (omega (arith, w k s y)))
 
 -- a fault that every text past the names has or has not as NULL has it, is that of the text by its two numbers: "a negative one spells no text"
-module _ (fault : Bool → Text → Bool) (b : Bool) (n : ℕ) (m : n ≤ 1048576) (e : fault false text.Null ≡ b) (f : (start len : ℕ) → n < start + len → fault false (text.Octets start len) ≡ b) where
+module _ (fault : Bool → Text → Bool) (b : Bool) (n : ℕ) (m : n ≤ 1048576) (e : fault false None ≡ b) (f : (start len : ℕ) → n < start + len → fault false (Some (record { start = start; len = len })) ≡ b) where
   text_same : (start len : ℕ) → start < 2 ^ 32 → len < 2 ^ 32 → fault false (entry_text (len + 4294967296 * start)) ≡ fault false (text_of start len)
   unfolding entry_text
   text_same start len p q = by (ltb (len + 4294967296 * start) (2 ^ 63)) refl
     where
-      past_all : (x : Bool) → 2 ^ 31 ≤ start → b ≡ fault false (cond x text.Null (text.Octets start len))
+      past_all : (x : Bool) → 2 ^ 31 ≤ start → b ≡ fault false (cond x None (Some (record { start = start; len = len })))
       past_all true l = sym e
       past_all false l = sym (f start len (omega arith))
 
       by : (x : Bool) → ltb (len + 4294967296 * start) (2 ^ 63) ≡ x
-          → fault false (cond x (text.Octets ((len + 4294967296 * start) / 4294967296) ((len + 4294967296 * start) % 4294967296)) text.Null) ≡ fault false (text_of start len)
+          → fault false (cond x (Some (record { start = ((len + 4294967296 * start) / 4294967296); len = ((len + 4294967296 * start) % 4294967296) })) None) ≡ fault false (text_of start len)
       by true h =
           let l : len + 4294967296 * start < 2 ^ 63 = ltb-true _ _ h in
           let u : (len + 4294967296 * start) / 4294967296 ≡ start = omega arith in
@@ -107,7 +105,7 @@ clear_entry fault names c i m h = by fault
     inside : ltb (length names) (end_of (le64 c (8 * i))) ≡ false
     inside = le-ltb (length names) (end_of (le64 c (8 * i))) h.within
 
-    by : (fault : TextFault) → asked fault names false (cond (ltb (le64 c (8 * i)) (2 ^ 63)) (text.Octets (le64 c (8 * i) / 4294967296) (le64 c (8 * i) % 4294967296)) text.Null) ≡ false
+    by : (fault : TextFault) → asked fault names false (cond (ltb (le64 c (8 * i)) (2 ^ 63)) (Some (record { start = (le64 c (8 * i) / 4294967296); len = (le64 c (8 * i) % 4294967296) })) None) ≡ false
     by Outside = simp (there, inside)
     by Either = simp (there, inside, h.well)
 
@@ -133,7 +131,7 @@ module _ (names c : List ℕ) (n : ℕ) where
   g = faulty_entry (ill names) c
 
   -- where neither is found, neither is there
-  pub entries-clean : (e : ℕ) (r : Checked) → e ≡ first (faulty_entry (asked Either names) c) n → n ≤ e → r ≡ Clean → r ≡ checked (entry_reasons names c n)
+  pub entries-clean : (e : ℕ) (r : Checked) → e ≡ first (faulty_entry (asked Either names) c) n → n ≤ e → r ≡ Ok tt → r ≡ checked (entry_reasons names c n)
   unfolding checked entry_reasons faulty_entry
   entries-clean e r h l q =
       let w : (any f n || any g n) ≡ false = sym (any-or f g n) ∙ misses (faulty_entry (asked Either names) c) n e h l in
@@ -149,12 +147,12 @@ module _ (names c : List ℕ) (n : ℕ) where
       or_right true b e = absurd (false≢true (sym e))
       or_right false b e = e
 
-  pub entries-outside : (o : ℕ) (r : Checked) → o ≡ first (faulty_entry (asked Outside names) c) n → o < n → r ≡ Fault 7 5 o → r ≡ checked (entry_reasons names c n)
+  pub entries-outside : (o : ℕ) (r : Checked) → o ≡ first (faulty_entry (asked Outside names) c) n → o < n → r ≡ Err (refusal why.Outside 5 o) → r ≡ checked (entry_reasons names c n)
   unfolding checked entry_reasons
   entries-outside o r h l q = let u : any f n ≡ true = finds f n o h l in q ∙ simp (u, h)
 
   -- where the first is not there, what is found is the second
-  pub entries-ill : (e o : ℕ) (r : Checked) → e ≡ first (faulty_entry (asked Either names) c) n → o ≡ first (faulty_entry (asked Outside names) c) n → e < n → n ≤ o → r ≡ Fault 13 5 e → r ≡ checked (entry_reasons names c n)
+  pub entries-ill : (e o : ℕ) (r : Checked) → e ≡ first (faulty_entry (asked Either names) c) n → o ≡ first (faulty_entry (asked Outside names) c) n → e < n → n ≤ o → r ≡ Err (refusal why.IllFormed 5 e) → r ≡ checked (entry_reasons names c n)
   unfolding checked entry_reasons faulty_entry
   entries-ill e o r h k l m q =
       let u : any f n ≡ false = misses f n o k m in

@@ -13,8 +13,7 @@ use Rattle.octets.specs.BufferLaws.{length-filled, filled_none, filled_more}
 use Rattle.octets.specs.GatherLaws.{gather-one, gather_even}
 use Rattle.octets.specs.Slices.{nth}
 use Rattle.listing.specs.Listing.{row, rows}
-use Rattle.listing.specs.Refusals.{checked}
-use Rattle.listing.specs.declared.Checked.{Checked}
+use Rattle.listing.specs.Refusals.{Checked, checked}
 use Rattle.pack.specs.Tables.{tile_at, tile_row}
 use Rattle.columns.specs.Refusals.{short_reason}
 use Rattle.columns.specs.Tiles.{number_in, entry, entries_of, column, given}

@@ -1,6 +1,6 @@
 -- "Where the columns hold what the fill writes, both are proved equal to those from rows": such columns spell the tile rows themselves.
 use Prim.Native.Nat.{ℕ, zero, suc, ◌+◌, ◌*◌, ◌/◌, ◌^◌, ◌<◌, ◌≤◌}
-use Rattle.std.specs.Prelude.{◌≡◌, Bool, true, length, get_or}
+use Rattle.std.specs.Prelude.{◌≡◌, Bool, true, length, get_or, Ok}
 use Rattle.std.proofs.Math.Path.{refl, sym, ap}
 use Rattle.std.proofs.Common.{◌∙◌, mul-zero, mul-suc, mul_comm, le-leb, length-append, take-append-drop, take-add, drop-drop}
 use mathlib.Core.List.{List, [], ◌∷◌, ◌++◌, append_assoc}
@@ -20,10 +20,8 @@ use Rattle.octets.specs.Texts.{outside}
 use Rattle.listing.specs.Listing.{row, most, count, offset, table, tables_of, rows}
 use Rattle.listing.proofs.ListingLaws.{no_bad_row, no_ill_row}
 use Rattle.listing.specs.ListingLaws.{count_most, table-length, table-rows}
-use Rattle.listing.specs.Refusals.{ill, faulty_row, outcome, is_accepted}
+use Rattle.listing.specs.Refusals.{Checked, ill, faulty_row, outcome, is_accepted}
 use Rattle.listing.specs.RefusalLaws.{accepted-is}
-use Rattle.listing.specs.declared.Checked.{Checked}
-use Rattle.listing.specs.declared.Checked.TheVariants.{Clean}
 use Rattle.listing.specs.declared.Format.TheVariants.{Edition1}
 use Rattle.pack.specs.Columns.{entries}
 use Rattle.pack.specs.Tables.{tile_at, tile_row, pack_in, pack_of}
@@ -221,11 +219,11 @@ short-same : (n : ℕ) (bs cs : List (List ℕ)) → length (nth cs 0) ≡ lengt
 unfolding is_short entries
 short-same n bs cs e f g h = rw (e, f, g, h)
 
-pub filled-holds : (s : List ℕ) (bs cs : List (List ℕ)) → FillOf s bs Clean cs → Holds s cs
+pub filled-holds : (s : List ℕ) (bs cs : List (List ℕ)) → FillOf s bs (Ok tt) cs → Holds s cs
 unfolding read
 filled-holds s bs cs h = record { long = kept; holds = each }
   where
-    clean : fill_answer s bs ≡ Clean
+    clean : fill_answer s bs ≡ (Ok tt)
     clean = sym h.answer
 
     long : Long (rows 5 (table s 5)) bs

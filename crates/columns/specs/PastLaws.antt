@@ -1,5 +1,5 @@
 -- Entries past the tile count are not read: they change no answer.
-use Rattle.std.specs.Prelude.{ℕ, ◌<◌, ◌≡◌, List, [], ◌∷◌, ◌++◌, Bool, length}
+use Rattle.std.specs.Prelude.{ℕ, ◌<◌, ◌≡◌, List, [], ◌∷◌, ◌++◌, Bool, length, Ok}
 use Rattle.std.proofs.Math.Path.{sym, ap}
 use Rattle.std.proofs.Common.{◌∙◌, arith}
 use Rattle.std.proofs.Math.Bool.{false}
@@ -7,11 +7,12 @@ use Rattle.octets.specs.Search.{first, any}
 use Rattle.octets.specs.SearchLaws.{first-agree, any-agree}
 use Rattle.octets.specs.Slices.{nth}
 use Rattle.octets.specs.Texts.{outside}
-use Rattle.octets.specs.declared.Text.{Text}
+use Rattle.octets.specs.Texts.{Text}
 use Rattle.listing.specs.Listing.{table, rows, layout}
 use Rattle.listing.specs.Refusals.{Reason, ill, decide}
 use Rattle.listing.specs.RefusalLaws.{reasons}
-use Rattle.listing.specs.declared.Outcome.TheVariants.{Accepted}
+use Rattle.listing.specs.declared.Why.{Why}
+use Rattle.listing.specs.declared.Why.TheVariants as why
 use Rattle.columns.specs.Refusals.{is_short, entry_text, faulty_entry, entry_reason, entry_reasons, column_reasons, column_outcome}
 use Rattle.columns.specs.SpelledLaws.{long-by, read_number}
 use Rattle.columns.specs.Tiles.{read, column_tables, column_pack}
@@ -31,8 +32,8 @@ module _ (s : List ℕ) where
     fault_same : (fault : Bool → Text → Bool) (i : ℕ) → i < rows 5 (table s 5) → faulty_entry fault (nth cs 0) i ≡ faulty_entry fault (nth ds 0) i
     fault_same fault i l = fault_read fault cs i g l ∙ ap (λ (c : List ℕ). faulty_entry fault c i) (e 0 (omega arith)) ∙ sym (fault_read fault ds i h l)
 
-    reason_same : (number : ℕ) (fault : Bool → Text → Bool) → entry_reason number fault (nth cs 0) (rows 5 (table s 5)) ≡ entry_reason number fault (nth ds 0) (rows 5 (table s 5))
-    reason_same number fault =
+    reason_same : (w : Why) (fault : Bool → Text → Bool) → entry_reason w fault (nth cs 0) (rows 5 (table s 5)) ≡ entry_reason w fault (nth ds 0) (rows 5 (table s 5))
+    reason_same w fault =
         let u : any (faulty_entry fault (nth cs 0)) (rows 5 (table s 5)) ≡ any (faulty_entry fault (nth ds 0)) (rows 5 (table s 5)) = any-agree (faulty_entry fault (nth cs 0)) (faulty_entry fault (nth ds 0)) (rows 5 (table s 5)) (fault_same fault) in
         let v : first (faulty_entry fault (nth cs 0)) (rows 5 (table s 5)) ≡ first (faulty_entry fault (nth ds 0)) (rows 5 (table s 5)) = first-agree (faulty_entry fault (nth cs 0)) (faulty_entry fault (nth ds 0)) (rows 5 (table s 5)) (fault_same fault) in
         rw (u, v)
@@ -40,6 +41,6 @@ module _ (s : List ℕ) where
     pub past-outcome : column_outcome s cs ≡ column_outcome s ds
     unfolding column_outcome column_reasons entry_reasons
     past-outcome =
-        ap (λ (x : Bool). decide (reasons s ++ (record { number = 14; there = x; at_table = 5; at_row = 0 } ∷ entry_reasons (table s 7) (nth cs 0) (rows 5 (table s 5)))) (Accepted (layout s))) (g ∙ sym h)
-        ∙ ap (λ (x : Reason). decide (reasons s ++ (record { number = 14; there = is_short (rows 5 (table s 5)) ds; at_table = 5; at_row = 0 } ∷ x ∷ entry_reason 13 (ill (table s 7)) (nth cs 0) (rows 5 (table s 5)) ∷ [])) (Accepted (layout s))) (reason_same 7 (outside (length (table s 7))))
-        ∙ ap (λ (x : Reason). decide (reasons s ++ (record { number = 14; there = is_short (rows 5 (table s 5)) ds; at_table = 5; at_row = 0 } ∷ entry_reason 7 (outside (length (table s 7))) (nth ds 0) (rows 5 (table s 5)) ∷ x ∷ [])) (Accepted (layout s))) (reason_same 13 (ill (table s 7)))
+        ap (λ (x : Bool). decide (reasons s ++ (record { why = why.Columns; there = x; at_table = 5; at_row = 0 } ∷ entry_reasons (table s 7) (nth cs 0) (rows 5 (table s 5)))) (Ok (layout s))) (g ∙ sym h)
+        ∙ ap (λ (x : Reason). decide (reasons s ++ (record { why = why.Columns; there = is_short (rows 5 (table s 5)) ds; at_table = 5; at_row = 0 } ∷ x ∷ entry_reason why.IllFormed (ill (table s 7)) (nth cs 0) (rows 5 (table s 5)) ∷ [])) (Ok (layout s))) (reason_same why.Outside (outside (length (table s 7))))
+        ∙ ap (λ (x : Reason). decide (reasons s ++ (record { why = why.Columns; there = is_short (rows 5 (table s 5)) ds; at_table = 5; at_row = 0 } ∷ entry_reason why.Outside (outside (length (table s 7))) (nth ds 0) (rows 5 (table s 5)) ∷ x ∷ [])) (Ok (layout s))) (reason_same why.IllFormed (ill (table s 7)))

@@ -12,7 +12,7 @@ use Rattle.octets.specs.Gather.{gather}
 use Rattle.octets.specs.Search.{first, any}
 use Rattle.octets.specs.Slices.{nth}
 use Rattle.octets.specs.Texts.{text_of, text_at, outside}
-use Rattle.octets.specs.declared.Text.{Text}
+use Rattle.octets.specs.Texts.{Text}
 use Rattle.listing.specs.Listing.{row, table, tables_of, rows}
 use Rattle.listing.specs.Refusals.{ill, text_base, text_count, null_count, faulty_text, faulty_row}
 use Rattle.listing.specs.declared.Format.TheVariants.{Edition1}

@@ -1,11 +1,10 @@
 -- The tiles of a listing in columns: what the fill writes, what a call reads, and the tile rows that columns spell.
-use Rattle.std.specs.Prelude.{ℕ, zero, suc, ◌+◌, ◌*◌, ◌/◌, ◌≡◌, List, [], ◌∷◌, ◌++◌}
+use Rattle.std.specs.Prelude.{ℕ, zero, suc, ◌+◌, ◌*◌, ◌/◌, ◌≡◌, List, [], ◌∷◌, ◌++◌, Ok, Err}
 use Rattle.octets.specs.Octets.{part, word, filled}
 use Rattle.octets.specs.Gather.{gather}
 use Rattle.octets.specs.Slices.{nth}
 use Rattle.listing.specs.Listing.{table, tables_of, rows}
-use Rattle.listing.specs.declared.Checked.{Checked}
-use Rattle.listing.specs.declared.Checked.TheVariants.{Clean, Fault}
+use Rattle.listing.specs.Refusals.{Checked}
 use Rattle.pack.specs.Rows.{Pack}
 use Rattle.pack.specs.Tables.{tile_row, with_tiles, pack_in}
 use Rattle.pack.specs.declared.TileRow.{TileRow}
@@ -33,8 +32,8 @@ column t k = entries_of t k (rows 5 t)
 
 -- what is put into it: nothing where the fill is refused
 abbrev pub given : Checked → List ℕ → ℕ → List ℕ
-given Clean t k = column t k
-given (Fault n a b) t k = []
+given (Ok tt) t k = column t k
+given (Err e) t k = []
 
 -- s is the listing, bs are the four columns before the fill and cs after it. "Entries past the tile count keep their values"; nothing is written on a refusal
 pub record FillOf (s : List ℕ) (bs : List (List ℕ)) (r : Checked) (cs : List (List ℕ)) : Type 0 where

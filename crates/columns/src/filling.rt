@@ -6,7 +6,7 @@ ghost use Rattle.columns.specs.Tiles.{entry, column, FillOf};
 ghost use Rattle.columns.specs.FillLaws.{Room, FilledAs};
 
 use crate::check::is_short;
-use listing::{Checked, Outcome, TileTable, rows_of};
+use listing::{Refusal, TileTable, Why, rows_of};
 
 // An entry, by the lower and the upper half of its number.
 fn put_entry(column: &mut [u8], i: usize, low: u32, high: u32)
@@ -31,7 +31,7 @@ fn copy_entry(tiles: &[u8], i: usize, low_at: usize, high_at: usize, column: &mu
     );
 }
 
-// The entries of all rows. The length of a name stands behind its start in a row, and before it in an entry.
+// The entries of all rows. Four buffers, since they are C's, and lent to be written. The length of a name stands behind its start in a row, and before it in an entry.
 fn fill_entries(
     tiles: &[u8],
     n: usize,
@@ -46,13 +46,11 @@ fn fill_entries(
     ensures columns_after { columns.new ≡ filled (column tiles.now 2) columns.old }
     ensures rows_after { rows.new ≡ filled (column tiles.now 3) rows.old }
 {
-    let mut i = 0;
-    while i < n {
+    for i in 0..n {
         copy_entry(tiles, i, 4, 0, firsts);
         copy_entry(tiles, i, 8, 12, zooms);
         copy_entry(tiles, i, 16, 20, columns);
         copy_entry(tiles, i, 24, 28, rows);
-        i += 1;
     }
 }
 
@@ -62,19 +60,15 @@ fn fill_columns(
     zooms: &mut [u8],
     columns: &mut [u8],
     rows: &mut [u8],
-) -> Checked
+) -> Result<(), Refusal>
     ensures { FilledAs tiles.now (firsts.old ∷ zooms.old ∷ columns.old ∷ rows.old ∷ []) result (firsts.new ∷ zooms.new ∷ columns.new ∷ rows.new ∷ []) }
 {
     let n = rows_of(5, tiles);
     if is_short(n, firsts.len(), zooms.len(), columns.len(), rows.len()) {
-        return Checked::Fault {
-            number: 14,
-            table: 5,
-            row: 0,
-        };
+        return Err(Refusal::new(Why::Columns, 5, 0));
     }
     fill_entries(tiles, n, firsts, zooms, columns, rows);
-    Checked::Clean
+    Ok(())
 }
 
 // Fills the columns, or says why not.
@@ -84,18 +78,9 @@ pub fn fill(
     zooms: &mut [u8],
     columns: &mut [u8],
     rows: &mut [u8],
-) -> Checked
+) -> Result<(), Refusal>
     ensures { FillOf listing.now (firsts.old ∷ zooms.old ∷ columns.old ∷ rows.old ∷ []) result (firsts.new ∷ zooms.new ∷ columns.new ∷ rows.new ∷ []) }
 {
-    let outcome = listing::accept(listing);
-    match outcome {
-        Outcome::Refused { number, table, row } => Checked::Fault { number, table, row },
-        Outcome::Accepted(_) => fill_columns(
-            listing::table_of(listing, 5),
-            firsts,
-            zooms,
-            columns,
-            rows,
-        ),
-    }
+    listing::accept(listing)?;
+    fill_columns(listing::table_of(listing, 5), firsts, zooms, columns, rows)
 }

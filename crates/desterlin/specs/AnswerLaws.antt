@@ -6,8 +6,7 @@ use Rattle.std.proofs.Common.{sym, ◌∙◌, subst, inl, arith, le-ltb}
 use Rattle.std.proofs.Math.Bool.{true, false}
 use Rattle.std.proofs.Math.ListN.{length}
 use Rattle.octets.specs.Octets.{le32}
-use Rattle.listing.specs.Refusals.{number_of, is_accepted}
-use Rattle.listing.specs.declared.Outcome.{Outcome}
+use Rattle.listing.specs.Refusals.{number_of, is_accepted, Outcome}
 use Rattle.findings.specs.Findings.{Finding, Every}
 use Rattle.findings.specs.Words.{words_of, written_of, buffer_of, report_words_by, answered}
 use Rattle.findings.specs.Demands.{Stands, AllFit}

@@ -1,20 +1,16 @@
 -- What a caller of the calls on a listing has from their promises: one answer, which its words read as, and a refusal that writes nothing.
-use Rattle.std.specs.Prelude.{ℕ, ◌+◌, ◌*◌, ◌<◌, ◌≤◌, List, ◌∷◌, ◌++◌, ◌≡◌, refl, true, ℤ, length, get_or}
+use Rattle.std.specs.Prelude.{ℕ, ◌+◌, ◌*◌, ◌<◌, ◌≤◌, List, ◌∷◌, ◌++◌, ◌≡◌, refl, true, ℤ, length, get_or, Some, None, Ok, Err}
 use Rattle.std.proofs.Common.{sym, ◌∙◌, subst, arith, lt-ltb}
 use Rattle.octets.specs.Octets.{le32}
-use Rattle.listing.specs.Refusals.{outcome, number_of}
-use Rattle.listing.specs.declared.Outcome.{Outcome}
+use Rattle.listing.specs.Refusals.{outcome, number_of, Outcome}
 use Rattle.findings.specs.Findings.{Finding}
-use Rattle.findings.specs.Answers.{reported, verdict_of, is_refused, lookup_of}
+use Rattle.findings.specs.Answers.{reported, verdict_of, is_refused, lookup_of, Verdict, Located}
 use Rattle.findings.specs.Words.{words_of, written_of, report_words, ruling_words, located_words}
 use Rattle.findings.specs.ReportedLaws.{reported-none}
 use Rattle.findings.specs.RefusedLaws.{accepted-number}
 use Rattle.findings.proofs.WordLaws.{verdict_fits}
 use Rattle.findings.specs.WordLaws.{findings-fit, report_fits, lookup_fits}
-use Rattle.findings.specs.declared.Ruling.{Ruling}
-use Rattle.findings.specs.declared.Ruling.TheVariants.{Pass, Fail, NotTestable, Refused}
-use Rattle.findings.specs.declared.Located.{Located}
-use Rattle.findings.specs.declared.Located.TheVariants as look
+use Rattle.findings.specs.declared.Ruling.TheVariants.{Pass, Fail, NotTestable}
 use Rattle.desterlin.specs.AnswerLaws.{Readable, answer-read, answer-reads, answer-number, answer-total, answer-written, answer-finding, answer-past, answer_refused_kept}
 use Rattle.desterlin.specs.Calls.{ReportAnswer, ReportCall, VerdictCall, LookupAnswer, LookupCall}
 
@@ -89,21 +85,21 @@ module _ {s : List ℕ} {code : ℕ} {w a : List ℕ} {r : ℕ} {w' a' : List �
   pub verdict_reads : (k : ℕ) → k < 5 → le32 a' (4 * k) ≡ get_or (ruling_words (verdict_of s code)) k 0
   verdict_reads k l = answer-read 20 (ruling_words (verdict_of s code)) a a' k whole (verdict_fits s code) (subst (λ (n : ℕ). k < n) (sym (five (verdict_of s code))) l) p.answer
     where
-      five : (v : Ruling) → length (ruling_words v) ≡ 5
-      five Pass = refl
-      five (Fail i) = refl
-      five NotTestable = refl
-      five (Refused n t q) = refl
+      five : (v : Verdict) → length (ruling_words v) ≡ 5
+      five (Ok Pass) = refl
+      five (Ok (Fail i)) = refl
+      five (Ok NotTestable) = refl
+      five (Err e) = refl
 
   -- a refused verdict leaves the workspace as it was
   pub verdict_refused_kept : le32 a' 0 ≡ 3 → w' ≡ w
   verdict_refused_kept e = p.refused (by (verdict_of s code) (sym (verdict_reads 0 (omega arith)) ∙ e))
     where
-      by : (v : Ruling) → get_or (ruling_words v) 0 0 ≡ 3 → is_refused v ≡ true
-      by Pass q = absurd (omega arith)
-      by (Fail i) q = absurd (omega arith)
-      by NotTestable q = absurd (omega arith)
-      by (Refused n t z) q = refl
+      by : (v : Verdict) → get_or (ruling_words v) 0 0 ≡ 3 → is_refused v ≡ true
+      by (Ok Pass) q = absurd (omega arith)
+      by (Ok (Fail i)) q = absurd (omega arith)
+      by (Ok NotTestable) q = absurd (omega arith)
+      by (Err w) q = refl
 
 pub lookup_reads : (s : List ℕ) (k : ℕ) (z c i : ℤ) {a : List ℕ} {r : ℕ} {a' : List ℕ} → LookupCall s k z c i a r a' → 16 ≤ length a
     → (j : ℕ) → j < 4 → le32 a' (4 * j) ≡ get_or (located_words (lookup_of s k z c i)) j 0
@@ -111,6 +107,6 @@ lookup_reads s k z c i {a} {r} {a'} p whole j l =
     answer-read 16 (located_words (lookup_of s k z c i)) a a' j whole (lookup_fits s k z c i) (subst (λ (n : ℕ). j < n) (sym (four (lookup_of s k z c i))) l) p.answer
   where
     four : (v : Located) → length (located_words v) ≡ 4
-    four (look.At i) = refl
-    four look.Nowhere = refl
-    four (look.Refused n t q) = refl
+    four (Ok (Some j)) = refl
+    four (Ok None) = refl
+    four (Err e) = refl

@@ -4,26 +4,21 @@ use Rattle.std.specs.Prelude.{ℕ, List, [], ◌∷◌, ◌≡◌, true, false, 
 use Rattle.octets.specs.Octets.{filled}
 use Rattle.octets.specs.Slices.{nth}
 use Rattle.listing.specs.Listing.{table, numbered}
-use Rattle.listing.specs.Refusals.{outcome, is_accepted}
-use Rattle.listing.specs.declared.Checked.{Checked}
-use Rattle.listing.specs.declared.Checked.TheVariants.{Clean, Fault}
-use Rattle.listing.specs.declared.Outcome.{Outcome}
+use Rattle.listing.specs.Refusals.{outcome, is_accepted, Outcome, Checked, number_of, table_of, row_of}
 use Rattle.columns.specs.Refusals.{column_outcome, fill_answer}
 use Rattle.columns.specs.Tiles.{given}
 use Rattle.metadata.specs.Refusals.{metadata_outcome}
-use Rattle.writer.specs.Writing.{write_answer, number_in, table_in, row_in, octets_in, given_of}
-use Rattle.writer.specs.declared.Written.{Written}
-use Rattle.report.specs.declared.Summary.{Summary}
+use Rattle.writer.specs.Writing.{Written, write_answer, number_in, table_in, row_in, octets_in, given_of}
+use Rattle.report.specs.Promises.{Report, total_in, written_in}
 use Rattle.findings.specs.Findings.{Finding}
-use Rattle.findings.specs.Answers.{reported, verdict_of, is_refused, lookup_of}
+use Rattle.findings.specs.Answers.{reported, verdict_of, is_refused, Located, lookup_of}
 use Rattle.findings.specs.ColumnAnswers.{column_reported, column_lookup}
 use Rattle.findings.specs.MetadataAnswers.{metadata_reported}
-use Rattle.findings.specs.declared.Located.{Located}
 use Rattle.findings.specs.Words.{buffer_of, report_words_by, ruling_words, located_words, is_short, status_of, answered}
 
 -- a report's answer: number and place, total, written
-abbrev pub summary_words : Summary → List ℕ
-summary_words r = r.number ∷ r.table ∷ r.row ∷ r.total ∷ r.written ∷ []
+abbrev pub summary_words : Report → List ℕ
+summary_words r = number_of r ∷ table_of r ∷ row_of r ∷ total_in r ∷ written_in r ∷ []
 
 -- o is what the check has said, and fs are the findings; b, w and a are the findings buffer, the workspace and the answer before the call, b', w' and a' after it
 pub record ReportAnswer (o : Outcome) (fs : List Finding) (b w a : List ℕ) (r : ℕ) (b' w' a' : List ℕ) : Type 0 where
@@ -75,8 +70,7 @@ ColumnLookupCall s cs k z c i a r a' = LookupAnswer (column_lookup s cs k z c i)
 
 -- the fill's answer: number and place
 abbrev pub checked_words : Checked → List ℕ
-checked_words Clean = 0 ∷ 0 ∷ 0 ∷ []
-checked_words (Fault n t i) = n ∷ t ∷ i ∷ []
+checked_words r = number_of r ∷ table_of r ∷ row_of r ∷ []
 
 -- bs are the columns before the call and cs after it. Nothing is put into a column where the answer is too short or the fill is refused
 abbrev pub filled_by : List ℕ → List (List ℕ) → List ℕ → ℕ → List ℕ

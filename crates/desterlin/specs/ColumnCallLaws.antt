@@ -1,5 +1,5 @@
 -- What a caller of the calls on columns has from their promises: one answer, a refusal that writes nothing, columns that hold what the fill writes, and from such columns the answers from rows.
-use Rattle.std.specs.Prelude.{ℕ, ◌*◌, ◌<◌, ◌≤◌, List, [], ◌∷◌, ◌≡◌, Bool, cond, ℤ, length, get_or}
+use Rattle.std.specs.Prelude.{ℕ, ◌*◌, ◌<◌, ◌≤◌, List, [], ◌∷◌, ◌≡◌, Bool, cond, ℤ, length, get_or, Ok, Err}
 use Rattle.std.proofs.Math.Path.{refl}
 use Rattle.std.proofs.Common.{sym, ap, ◌∙◌, subst, true≢false, arith, lt-ltb, le-ltb}
 use Rattle.std.proofs.Math.Bool.{true, false}
@@ -7,22 +7,19 @@ use Rattle.octets.specs.Octets.{le32, filled}
 use Rattle.octets.specs.BufferLaws.{filled_none}
 use Rattle.octets.specs.Slices.{nth}
 use Rattle.listing.specs.Listing.{table, rows}
-use Rattle.listing.specs.Refusals.{outcome, is_accepted, checked, number_of, table_of, row_of}
+use Rattle.listing.specs.Refusals.{outcome, is_accepted, checked, number_of, table_of, row_of, Outcome, Checked, refusal}
+use Rattle.listing.specs.declared.Refusal.{Refusal}
+use Rattle.listing.specs.declared.Why.TheVariants as why
 use Rattle.listing.specs.RefusalLaws.{none-numbered}
-use Rattle.listing.specs.declared.Checked.{Checked}
-use Rattle.listing.specs.declared.Checked.TheVariants.{Clean, Fault}
-use Rattle.listing.specs.declared.Outcome.{Outcome}
-use Rattle.listing.specs.declared.Outcome.TheVariants.{Accepted, Refused}
 use Rattle.columns.specs.Refusals.{is_short, fill_answer, column_outcome}
 use Rattle.columns.specs.Tiles.{given, FillOf}
 use Rattle.columns.specs.ColumnRefusalLaws.{fill_same, fill_rest}
 use Rattle.columns.specs.FilledLaws.{Holds, filled-holds, held-outcome}
 use Rattle.findings.specs.Demands.{AllFit}
 use Rattle.findings.specs.Findings.{Finding}
-use Rattle.findings.specs.Answers.{reported}
+use Rattle.findings.specs.Answers.{reported, Located}
 use Rattle.findings.specs.ColumnLaws.{filled-reported, filled_lookup}
 use Rattle.findings.specs.RefusedLaws.{written-fit, place-fits}
-use Rattle.findings.specs.declared.Located.{Located}
 use Rattle.desterlin.specs.Calls.{ReportAnswer, ReportCall, LookupAnswer, LookupCall, ColumnReportCall, ColumnLookupCall, checked_words, FillCall}
 use Rattle.desterlin.specs.AnswerLaws.{answer-read}
 
@@ -40,34 +37,34 @@ fill_short_kept {a = a} p h =
 
 -- ---- number, table and row fit their words, and the number is 0 where nothing is refused alone
 module _ (s : List ℕ) (bs : List (List ℕ)) where
-  fill_cases : (P : Checked → Type 0) → P Clean → P (Fault 14 5 0) → ((n t i : ℕ) → outcome s ≡ Refused n t i → P (Fault n t i)) → P (fill_answer s bs)
+  fill_cases : (P : Checked → Type 0) → P (Ok tt) → P (Err (refusal why.Columns 5 0)) → ((e : Refusal) → outcome s ≡ Err e → P (Err e)) → P (fill_answer s bs)
   unfolding checked
   fill_cases P clean short turned = by (outcome s) refl
     where
-      by-room : (b : Bool) → P (cond b (Fault 14 5 0) Clean)
+      by-room : (b : Bool) → P (cond b (Err (refusal why.Columns 5 0)) (Ok tt))
       by-room true = short
       by-room false = clean
 
       by : (o : Outcome) → outcome s ≡ o → P (fill_answer s bs)
-      by (Accepted l) e = subst P (sym (fill_rest s bs (ap is_accepted e))) (by-room (is_short (rows 5 (table s 5)) bs))
-      by (Refused n t i) e = subst P (sym (fill_same s bs n t i e)) (turned n t i e)
+      by (Ok l) e = subst P (sym (fill_rest s bs (ap is_accepted e))) (by-room (is_short (rows 5 (table s 5)) bs))
+      by (Err w) e = subst P (sym (fill_same s bs w e)) (turned w e)
 
   fill_fits : AllFit (checked_words (fill_answer s bs))
   fill_fits =
       fill_cases (λ v. AllFit (checked_words v)) (written-fit (0 ∷ 0 ∷ 0 ∷ []) refl) (written-fit (14 ∷ 5 ∷ 0 ∷ []) refl)
-      (λ n t i e. subst (λ (o : Outcome). AllFit (number_of o ∷ table_of o ∷ row_of o ∷ [])) e (place-fits s))
+      (λ w e. subst (λ (o : Outcome). AllFit (number_of o ∷ table_of o ∷ row_of o ∷ [])) e (place-fits s))
 
-  fill_none : get_or (checked_words (fill_answer s bs)) 0 0 ≡ 0 → fill_answer s bs ≡ Clean
+  fill_none : get_or (checked_words (fill_answer s bs)) 0 0 ≡ 0 → fill_answer s bs ≡ Ok tt
   fill_none =
-      fill_cases (λ v. get_or (checked_words v) 0 0 ≡ 0 → v ≡ Clean) (λ _. refl) (λ z. absurd (omega (arith, z)))
-      (λ n t i e z. absurd (true≢false (sym (none-numbered s (ap number_of e ∙ z)) ∙ ap is_accepted e)))
+      fill_cases (λ v. get_or (checked_words v) 0 0 ≡ 0 → v ≡ Ok tt) (λ _. refl) (λ z. absurd (omega (arith, z)))
+      (λ w e z. absurd (true≢false (sym (none-numbered s (ap number_of e ∙ z)) ∙ ap is_accepted e)))
 
   three : length (checked_words (fill_answer s bs)) ≡ 3
   three = by (fill_answer s bs)
     where
       by : (v : Checked) → length (checked_words v) ≡ 3
-      by Clean = refl
-      by (Fault n t i) = refl
+      by (Ok u) = refl
+      by (Err e) = refl
 
 module _ (s : List ℕ) {bs : List (List ℕ)} {a : List ℕ} {r : ℕ} {cs : List (List ℕ)} {a' : List ℕ} (p : FillCall s bs a r cs a') (whole : 12 ≤ length a) where
   -- each word of the answer reads as its number
@@ -82,8 +79,8 @@ module _ (s : List ℕ) {bs : List (List ℕ)} {a : List ℕ} {r : ℕ} {cs : Li
   fill_refused_kept n = (wrote.firsts ∙ kept 0 (nth bs 0), wrote.zooms ∙ kept 1 (nth bs 1), wrote.columns ∙ kept 2 (nth bs 2), wrote.rows ∙ kept 3 (nth bs 3))
     where
       by : (v : Checked) → (get_or (checked_words v) 0 0 ≡ 0 → ⊥) → (k : ℕ) (b : List ℕ) → filled (given v (table s 5) k) b ≡ b
-      by Clean m k b = absurd (m refl)
-      by (Fault x y z) m k b = sym (filled_none b)
+      by (Ok u) m k b = absurd (m refl)
+      by (Err e) m k b = sym (filled_none b)
 
       kept : (k : ℕ) (b : List ℕ) → filled (given (fill_answer s bs) (table s 5) k) b ≡ b
       kept = by (fill_answer s bs) (λ z. n (fill_reads 0 (omega arith) ∙ z))

@@ -1,10 +1,8 @@
 -- What a caller of the report on metadata has from its promise: AnswerLaws, of its own findings. Too short an answer, and that two answers are one, are in CallLaws.
-use Rattle.std.specs.Prelude.{ℕ, ◌+◌, ◌*◌, ◌<◌, ◌≤◌, List, ◌∷◌, ◌++◌, ◌≡◌, refl, true, length, get_or}
+use Rattle.std.specs.Prelude.{ℕ, ◌+◌, ◌*◌, ◌<◌, ◌≤◌, List, ◌∷◌, ◌++◌, ◌≡◌, refl, true, length, get_or, Ok, Err}
 use Rattle.std.proofs.lemmas.Bool.{false≢true}
 use Rattle.octets.specs.Octets.{le32}
-use Rattle.listing.specs.Refusals.{number_of, is_accepted}
-use Rattle.listing.specs.declared.Outcome.{Outcome}
-use Rattle.listing.specs.declared.Outcome.TheVariants.{Accepted, Refused}
+use Rattle.listing.specs.Refusals.{number_of, is_accepted, Outcome}
 use Rattle.metadata.specs.Refusals.{metadata_outcome}
 use Rattle.findings.specs.Findings.{Finding}
 use Rattle.findings.specs.Words.{words_of, written_of, report_words_by}
@@ -14,8 +12,8 @@ use Rattle.desterlin.specs.Calls.{MetadataReportCall}
 use Rattle.desterlin.specs.AnswerLaws.{Readable, answer-reads, answer-number, answer-total, answer-written, answer-finding, answer-past, answer_refused_kept}
 
 none-numbered : (o : Outcome) → is_accepted o ≡ true → number_of o ≡ 0
-none-numbered (Accepted l) e = refl
-none-numbered (Refused n t r) e = absurd (false≢true e)
+none-numbered (Ok l) e = refl
+none-numbered (Err w) e = absurd (false≢true e)
 
 pub metadata_readable : (s m : List ℕ) → Readable (metadata_outcome s m) (metadata_reported s m)
 metadata_readable s m = record { words = metadata_fits s m; findings = metadata_findings_fit s m; accepted = none-numbered (metadata_outcome s m); refused = metadata_none s m }

@@ -1,6 +1,6 @@
 -- What a caller of the writer has from its promise: one answer, which its words read as; a listing that the reader accepts with the same tables; a refusal that writes nothing.
 use Prim.Native.Nat.{ℕ, zero, suc, ◌*◌, ◌<◌, ◌≤◌}
-use Rattle.std.specs.Prelude.{List, [], ◌∷◌, ◌≡◌, Bool, cond, ◌⊎◌, ltb, length, get_or, take}
+use Rattle.std.specs.Prelude.{List, [], ◌∷◌, ◌≡◌, Bool, cond, ◌⊎◌, ltb, length, get_or, take, Ok, Err}
 use Rattle.std.proofs.Math.Path.{refl, ap, subst}
 use Rattle.std.proofs.Common.{sym, ◌∙◌, inl, inr, lt-ltb, le-ltb}
 use Rattle.std.proofs.Math.Bool.{true, false}
@@ -10,17 +10,15 @@ use Rattle.octets.specs.BufferLaws.{filled_none, filled-front, filled-past}
 use Rattle.octets.proofs.SearchLaws.{first-lowest}
 use Rattle.listing.specs.Listing.{table, tables_of, numbered}
 use Rattle.listing.specs.TableLaws.{Seven, tables-numbered, numbered-seven, tables_are}
-use Rattle.listing.specs.Refusals.{outcome, is_accepted}
+use Rattle.listing.specs.Refusals.{outcome, is_accepted, Outcome, number, refusal}
+use Rattle.listing.specs.declared.Refusal.{Refusal}
+use Rattle.listing.specs.declared.Why.TheVariants as why
 use Rattle.listing.specs.ReasonLaws.{Given}
-use Rattle.listing.specs.declared.Outcome.{Outcome}
-use Rattle.listing.specs.declared.Outcome.TheVariants as reader
 use Rattle.writer.specs.Parts.{written}
 use Rattle.writer.specs.PartLaws.{Sized, written-most}
-use Rattle.writer.specs.Writing.{ragged, crowded, size_reasons, write_reasons, room_answer, write_answer, number_in, octets_in, given_of}
+use Rattle.writer.specs.Writing.{Written, ragged, crowded, size_reasons, write_reasons, room_answer, write_answer, number_in, octets_in, given_of}
 use Rattle.writer.proofs.WriteLaws.{reader_accepts, writes_all}
 use Rattle.writer.specs.WriteLaws.{sized, refusal_or, as_reader, reader_tables, never-long, writes_back, refused-place, written_or_refused, number-none}
-use Rattle.writer.specs.declared.Written.{Written}
-use Rattle.writer.specs.declared.Written.TheVariants.{Octets, Refused}
 use Rattle.pack.specs.Tables.{pack_in, pack_of}
 use Rattle.pack.specs.declared.Form.TheVariants as form
 use Rattle.findings.specs.Demands.{AllFit}
@@ -48,14 +46,14 @@ module _ (ps : ℕ → List ℕ) (v : Seven ps) (room : ℕ) where
   unfolding room_answer
   sized-fits w = subst Good (sym (as_reader ps v w room)) (by (outcome (written ps)) refl)
     where
-      roomed : (short : Bool) → Good (cond short (Refused 12 0 0) (Octets (length (written ps))))
+      roomed : (short : Bool) → Good (cond short (Err (refusal why.Room 0 0)) (Ok (length (written ps))))
       roomed true = written-fit (12 ∷ 0 ∷ 0 ∷ 0 ∷ []) refl
       roomed false = (omega arith, (omega arith, (omega arith, (omega (arith, written-most ps v w), tt))))
 
       by : (o : Outcome) → outcome (written ps) ≡ o → Good (refusal_or o (room_answer ps room))
-      by (reader.Accepted l) e = roomed (ltb room (length (written ps)))
-      by (reader.Refused n t r) e =
-          let q : AllFit (n ∷ t ∷ r ∷ []) = rw e at (place-fits (written ps)) in
+      by (Ok l) e = roomed (ltb room (length (written ps)))
+      by (Err w) e =
+          let q : AllFit (number w.why ∷ w.table ∷ w.row ∷ []) = rw e at (place-fits (written ps)) in
           (q.0, (q.1.0, (q.1.1.0, (omega arith, tt))))
 
   pub write_fits : AllFit (written_words (write_answer ps room))
@@ -67,7 +65,7 @@ module _ (ps : ℕ → List ℕ) (v : Seven ps) (room : ℕ) where
       at_reason (suc zero) g = subst Good (sym (refused-place ps room 1 g)) (omega arith, (omega (arith, (first-lowest (crowded ps) 8).most), written-fit (0 ∷ 0 ∷ []) refl))
       at_reason (suc (suc k)) g = sized-fits (sized ps v.none (g.passed.none 0 (omega arith)) (g.passed.none 1 (omega arith)))
 
-      by : (write_answer ps room ≡ Octets (length (written ps))) ⊎ ((k : ℕ) × Given (write_reasons ps room) k) → Good (write_answer ps room)
+      by : (write_answer ps room ≡ Ok (length (written ps))) ⊎ ((k : ℕ) × Given (write_reasons ps room) k) → Good (write_answer ps room)
       by (inl e) = subst Good (sym e) (omega arith, (omega arith, (omega arith, (omega (arith, never-long ps room (length (written ps)) e v), tt))))
       by (inr g) = at_reason g.0 g.1
 
@@ -92,12 +90,12 @@ module _ {ts : List (List ℕ)} {b a : List ℕ} {r : ℕ} {b' a' : List ℕ} (p
   write_refused_kept n = by (write_answer (numbered ts) (length b)) refl
     where
       by : (v : Written) → write_answer (numbered ts) (length b) ≡ v → (le32 a' 12 ≡ 0) × (b' ≡ b)
-      by (Octets m) e = absurd (n (write_number ∙ ap number_in e))
-      by (Refused x y z) e = (write_octets ∙ ap octets_in e, wrote (Refused x y z) e ∙ sym (filled_none b))
+      by (Ok m) e = absurd (n (write_number ∙ ap number_in e))
+      by (Err w) e = (write_octets ∙ ap octets_in e, wrote (Err w) e ∙ sym (filled_none b))
 
   -- where the number is 0, so many octets as word 3 says are the listing of the parts
   module _ (e : le32 a' 0 ≡ 0) where
-    answered : write_answer (numbered ts) (length b) ≡ Octets (length (written (numbered ts)))
+    answered : write_answer (numbered ts) (length b) ≡ Ok (length (written (numbered ts)))
     answered = number-none (numbered ts) (length b) (sym write_number ∙ e)
 
     pub write_length : le32 a' 12 ≡ length (written (numbered ts))
@@ -105,7 +103,7 @@ module _ {ts : List (List ℕ)} {b a : List ℕ} {r : ℕ} {b' a' : List ℕ} (p
 
     pub write_front : take (le32 a' 12) b' ≡ written (numbered ts)
     write_front =
-        ap (λ (n : ℕ). take n b') write_length ∙ ap (take (length (written (numbered ts)))) (wrote (Octets (length (written (numbered ts)))) answered)
+        ap (λ (n : ℕ). take n b') write_length ∙ ap (take (length (written (numbered ts)))) (wrote (Ok (length (written (numbered ts)))) answered)
         ∙ filled-front (written (numbered ts)) b
 
     -- "what it writes, the reader accepts"
@@ -129,17 +127,17 @@ module _ {ts : List (List ℕ)} {b a : List ℕ} {r : ℕ} {b' a' : List ℕ} (p
   write_past j l = by (write_answer (numbered ts) (length b)) refl
     where
       by : (v : Written) → write_answer (numbered ts) (length b) ≡ v → get_or b' j 0 ≡ get_or b j 0
-      by (Octets m) e =
+      by (Ok m) e =
           let z : le32 a' 0 ≡ 0 = write_number ∙ ap number_in e in
-          ap (λ (x : List ℕ). get_or x j 0) (wrote (Octets m) e) ∙ filled-past (written (numbered ts)) b j (subst (λ (n : ℕ). n ≤ j) (write_length z) l)
-      by (Refused x y z) e = ap (λ (x : List ℕ). get_or x j 0) (wrote (Refused x y z) e ∙ sym (filled_none b))
+          ap (λ (x : List ℕ). get_or x j 0) (wrote (Ok m) e) ∙ filled-past (written (numbered ts)) b j (subst (λ (n : ℕ). n ≤ j) (write_length z) l)
+      by (Err w) e = ap (λ (x : List ℕ). get_or x j 0) (wrote (Err w) e ∙ sym (filled_none b))
 
   -- "parts taken from an accepted listing write back to the same octets"
   pub write_back : (s : List ℕ) → is_accepted (outcome s) ≡ true → ((k : ℕ) → get_or s k 0 < 256) → ts ≡ tables_of s → length s ≤ length b
       → (le32 a' 0 ≡ 0) × (le32 a' 12 ≡ length s) × (take (length s) b' ≡ s)
   write_back s x y t l =
       let q : numbered ts ≡ table s = ap numbered t ∙ tables-numbered s in
-      let o : write_answer (numbered ts) (length b) ≡ Octets (length s) = ap (λ (ps : ℕ → List ℕ). write_answer ps (length b)) q ∙ writes_all s x y (length b) l in
+      let o : write_answer (numbered ts) (length b) ≡ Ok (length s) = ap (λ (ps : ℕ → List ℕ). write_answer ps (length b)) q ∙ writes_all s x y (length b) l in
       let n : le32 a' 0 ≡ 0 = write_number ∙ ap number_in o in
       let m : le32 a' 12 ≡ length s = write_octets ∙ ap octets_in o in
       (n, m, ap (λ (k : ℕ). take k b') (sym m) ∙ write_front n ∙ ap written q ∙ writes_back s x y)

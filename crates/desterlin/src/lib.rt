@@ -7,18 +7,25 @@ ghost use Rattle.octets.specs.Numbers.{signed};
 ghost use Rattle.findings.specs.Words.{octets_of};
 ghost use Rattle.desterlin.specs.Calls.{summary_words, ReportCall, MetadataReportCall, VerdictCall, LookupCall, written_words, WriteCall, ColumnReportCall, ColumnLookupCall, checked_words, FillCall};
 
-use listing::Checked;
-use report::Summary;
-use writer::Written;
+use listing::Refusal;
+use report::{Summary, put_words};
 
 // A report's five words.
-fn put_summary(answer: &mut [u8], a: Summary)
+fn put_summary(answer: &mut [u8], a: Result<Summary, Refusal>)
     requires { 20 ≤ length answer.old }
     ensures { answer.new ≡ sets answer.old 0 (octets_of (summary_words a)) }
 {
-    report::put_refusal(answer, 0, a.number, a.table, a.row);
-    octets::put_word(answer, 12, a.total);
-    octets::put_word(answer, 16, a.written);
+    match a {
+        Ok(summary) => put_words(answer, 0, [0, 0, 0, summary.total, summary.written]),
+        Err(refusal) => {
+            let number = u32::from(refusal.why) as usize;
+            put_words(
+                answer,
+                0,
+                [number, refusal.table as usize, refusal.row as usize, 0, 0],
+            );
+        }
+    }
 }
 
 // Everything that is wrong with a listing. The answer: number, table and row of a refusal, total, written.
@@ -96,22 +103,21 @@ pub extern "C" fn desterlin_lookup(
     1
 }
 
-fn put_four(answer: &mut [u8], number: u32, table: u32, row: u32, count: usize)
-    requires { 16 ≤ length answer.old }
-    ensures { answer.new ≡ sets answer.old 0 (octets_of (number ∷ table ∷ row ∷ count ∷ [])) }
-{
-    report::put_refusal(answer, 0, number, table, row);
-    octets::put_word(answer, 12, count);
-}
-
 // The writer's four words.
-fn put_written(answer: &mut [u8], a: Written)
+fn put_written(answer: &mut [u8], a: Result<usize, Refusal>)
     requires { 16 ≤ length answer.old }
     ensures { answer.new ≡ sets answer.old 0 (octets_of (written_words a)) }
 {
     match a {
-        Written::Octets(n) => put_four(answer, 0, 0, 0, n),
-        Written::Refused { number, table, row } => put_four(answer, number, table, row, 0),
+        Ok(octets) => put_words(answer, 0, [0, 0, 0, octets]),
+        Err(refusal) => {
+            let number = u32::from(refusal.why) as usize;
+            put_words(
+                answer,
+                0,
+                [number, refusal.table as usize, refusal.row as usize, 0],
+            );
+        }
     }
 }
 
@@ -142,13 +148,20 @@ pub extern "C" fn desterlin_write<'a>(
 }
 
 // A refusal's three words, or that there is none.
-fn put_checked(answer: &mut [u8], said: Checked)
+fn put_checked(answer: &mut [u8], said: Result<(), Refusal>)
     requires { 12 ≤ length answer.old }
     ensures { answer.new ≡ sets answer.old 0 (octets_of (checked_words said)) }
 {
     match said {
-        Checked::Clean => report::put_refusal(answer, 0, 0, 0, 0),
-        Checked::Fault { number, table, row } => report::put_refusal(answer, 0, number, table, row),
+        Ok(()) => put_words(answer, 0, [0, 0, 0]),
+        Err(refusal) => {
+            let number = u32::from(refusal.why) as usize;
+            put_words(
+                answer,
+                0,
+                [number, refusal.table as usize, refusal.row as usize],
+            );
+        }
     }
 }
 

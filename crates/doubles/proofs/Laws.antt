@@ -1,6 +1,6 @@
 -- The cases of the definitions, in the shape in which goals ask for them.
 use Prim.Native.Nat.{ℕ, ◌*◌, ◌/◌, ◌^◌, ◌<◌, ◌≤◌}
-use mathlib.Core.Path.{◌≡◌, refl, sym, ap, subst, ◌∙◌}
+use mathlib.Core.Path.{◌≡◌, refl, sym, subst, ◌∙◌}
 use mathlib.Core.Bool.{Bool, true, false, not}
 use native.Mathlib.Nat.{le-div_iff_mul-le, div-lt_iff_lt-mul}
 use native.Mathlib.Omega.{arith}
@@ -8,8 +8,7 @@ use borrow.Author.Rules.{rules}
 use borrow.Author.Tests.{lt-ltb, le-leb, lt-leb}
 use lib.Dec.{T}
 use lib.IntN.{ℤ, pos}
-use lib.Ieee.{Float, nan, inf, fin, binary64, lt, le, ne, to_bits, is_nan, sub, mul, of_int}
-use lib.Ieee.Compare.{differs_from_itself, nan_differs}
+use lib.Ieee.{Float, nan, inf, fin, binary64, lt, le, to_bits, is_nan, sub, mul, of_int}
 use Rattle.octets.specs.Numbers.{natural}
 use Rattle.doubles.specs.Doubles.{positive, magnitude, difference, within_four, same_length, measures_by, measures}
 
@@ -28,15 +27,11 @@ no_nan (inf s) b e f = tt
 no_nan (fin s m k) b e f = tt
 
 -- a double that differs from itself is the NaN, whose magnitude is this; any other has a pattern
-pub nan_magnitude : (x : Float) → ne x x ≡ true → 0x7ff8_0000_0000_0000 ≡ magnitude x
-unfolding magnitude to_bits
-nan_magnitude x e = ap magnitude (sym (differs_from_itself x (subst T (sym e) tt)))
-
-pub same-no_nan : (x : Float) → ne x x ≡ false → T (not (is_nan x))
-unfolding is_nan
-same-no_nan nan e = absurd (subst T (sym nan_differs ∙ e) tt)
-same-no_nan (inf s) e = tt
-same-no_nan (fin s m k) e = tt
+pub nan_magnitude : (x : Float) → is_nan x ≡ true → 0x7ff8_0000_0000_0000 ≡ magnitude x
+unfolding magnitude to_bits is_nan
+nan_magnitude nan e = refl
+nan_magnitude (inf s) e = cc
+nan_magnitude (fin s m k) e = cc
 
 -- `within_four` where all three are finite and above 0: what is left is the comparison
 pub within-asked : (gap a b : Float) → positive a ≡ true → positive b ≡ true → positive gap ≡ true

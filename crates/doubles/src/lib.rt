@@ -5,10 +5,10 @@ ghost use Rattle.std.specs.Prelude.{◌≡◌, ◌<◌, ◌^◌};
 ghost use Rattle.std.specs.Float.{binary64};
 ghost use Rattle.std.specs.Float.Ieee.{of_bits};
 ghost use Rattle.octets.specs.Numbers.{signed, natural};
-ghost use Rattle.doubles.specs.Doubles.{positive, apart, near, twice, strictly_below, magnitude, gap_above, gap_of, difference, within_four, same_length, measures, spans_x, spans_y};
+ghost use Rattle.doubles.specs.Doubles.{positive, near, twice, strictly_below, magnitude, gap_above, gap_of, difference, within_four, same_length, measures, spans_x, spans_y};
 
 // The four corner values of a set row.
-#[derive(Clone, Copy)]
+#[derive(Clone, Copy, Default)]
 pub struct Extent {
     pub min_x: f64,
     pub min_y: f64,
@@ -16,7 +16,7 @@ pub struct Extent {
     pub max_y: f64,
 }
 
-// The double of any pattern. Every NaN pattern gives the one NaN.
+// The double of any pattern. Every NaN pattern gives the one NaN: `from_bits` alone takes no other pattern of a NaN.
 pub fn double_of(bits: u64) -> f64
     ensures { result ≡ of_bits binary64 bits }
 {
@@ -34,20 +34,13 @@ pub fn is_positive(x: f64) -> bool
     0.0 < x && x < 1.0 / 0.0
 }
 
-// How far apart two whole numbers are.
-fn steps(x: u64, y: u64) -> u64
-    ensures { result ≡ apart x y }
-{
-    if x <= y { y - x } else { x - y }
-}
-
 // Both are finite and above 0, and their patterns differ by at most 4.
 pub fn is_near(a: f64, b: f64) -> bool
     ensures { result ≡ near a b }
 {
     if is_positive(a) {
         if is_positive(b) {
-            return steps(f64::to_bits(a), f64::to_bits(b)) <= 4;
+            return f64::to_bits(a).abs_diff(f64::to_bits(b)) <= 4;
         }
     }
     false
@@ -67,7 +60,7 @@ pub fn is_finer(a: f64, b: f64) -> bool
     a < b
 }
 
-// The i64 of a pattern where it is not negative, and 0 where it is.
+// The i64 of a pattern where it is not negative, and 0 where it is, as `natural` has it: by way of an i64 it is no plainer.
 fn natural_of(p: u64) -> u64
     ensures { result ≡ natural (signed p) }
 {
@@ -78,7 +71,7 @@ fn natural_of(p: u64) -> u64
 fn magnitude_of(x: f64) -> u64
     ensures { (result ≡ magnitude x) × (result < 2 ^ 63) }
 {
-    if x != x {
+    if x.is_nan() {
         return 0x7ff8_0000_0000_0000;
     }
     f64::to_bits(x) % 0x8000_0000_0000_0000
@@ -93,15 +86,14 @@ fn gap_above(n: u64) -> f64
 }
 
 // The gap above the corner that is larger in magnitude.
+#[tactic(auto, unfolding(crate::specs::Doubles::gap_of))]
 fn gap_of(low: f64, high: f64) -> f64
     ensures { result ≡ gap_of low high }
 {
-    let a = magnitude_of(low);
-    let b = magnitude_of(high);
-    if a < b { gap_above(b) } else { gap_above(a) }
+    gap_above(magnitude_of(low).max(magnitude_of(high)))
 }
 
-// The greater less the other, rounded once.
+// The greater less the other, rounded once, as `difference` has it: the magnitude of a - b is another function of doubles, and no plainer.
 fn difference_of(a: f64, b: f64) -> f64
     ensures { result ≡ difference a b }
 {
@@ -150,7 +142,7 @@ fn does_measure(low: f64, high: f64, count: u64, size: u64, pixel: f64) -> bool
     is_same_length(low, high, high - low, (n * m) as f64 * pixel)
 }
 
-// Width times tile width pixels measure the extent from west to east.
+// Width times tile width pixels measure the extent from west to east. Two functions, since `spans_x` and `spans_y` are two rules' words, a line each.
 pub fn spans_x(e: Extent, width: u64, tile: u64, pixel: f64) -> bool
     ensures { result ≡ spans_x e (signed width) (signed tile) pixel }
 {

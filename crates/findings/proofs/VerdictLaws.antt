@@ -12,7 +12,7 @@ use Rattle.findings.specs.Schemes.{code_in, table_in, table_by, at_row_by, at_no
 use Rattle.findings.specs.SchemeLaws.{scheme_only_code}
 use Rattle.findings.specs.Answers.{fail_or, always_testable, without_finding, ruled}
 use Rattle.findings.specs.declared.Ruling.{Ruling}
-use Rattle.findings.specs.declared.Ruling.TheVariants.{Pass, Fail, NotTestable, Refused}
+use Rattle.findings.specs.declared.Ruling.TheVariants.{Pass, Fail, NotTestable}
 
 -- the findings of a listed code are those of the full list that have the code
 pub only_code : (p : Pack) (c : ℕ) → (table_of c ≡ 0 → ⊥) → only c (findings p) ≡ of_code p c (table_of c)
@@ -28,7 +28,6 @@ abbrev is_fail : Ruling → Bool
 is_fail Pass = false
 is_fail (Fail i) = true
 is_fail NotTestable = false
-is_fail (Refused n t r) = false
 
 no_fail : (c : ℕ) (b : Bool) (d : Bool) → is_fail (cond b (cond d Pass NotTestable) Pass) ≡ false
 no_fail c true true = refl

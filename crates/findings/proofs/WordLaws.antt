@@ -1,5 +1,5 @@
 -- The numbers of a verdict fit their words.
-use Rattle.std.specs.Prelude.{ℕ, ◌≡◌, List, [], ◌∷◌}
+use Rattle.std.specs.Prelude.{ℕ, ◌≡◌, List, [], ◌∷◌, Ok}
 use Rattle.std.proofs.Math.Path.{refl, ap}
 use Rattle.std.proofs.Common.{◌∙◌, subst}
 use Rattle.std.proofs.Math.Bool.{true}
@@ -25,13 +25,12 @@ module _ (s : List ℕ) where
   verdict_fits c =
       verdict_cases s c (λ v. AllFit (ruling_words v))
       (λ z. written-fit (3 ∷ none ∷ 9 ∷ 0 ∷ 0 ∷ []) refl)
-      (λ n t r l o. (omega arith, (omega arith, turned-fits s n t r o)))
+      (λ w l o. (omega arith, (omega arith, turned-fits s w o)))
       (λ l a. by (ruled (pack_of s) c) l a refl)
     where
-      by : (v : Ruling) → Listed c → is_accepted (outcome s) ≡ true → ruled (pack_of s) c ≡ v → AllFit (ruling_words v)
+      by : (v : Ruling) → Listed c → is_accepted (outcome s) ≡ true → ruled (pack_of s) c ≡ v → AllFit (ruling_words (Ok v))
       by ruling.Pass l a e = written-fit (0 ∷ none ∷ 0 ∷ 0 ∷ 0 ∷ []) refl
       by (ruling.Fail i) l a e =
-          let h = (verdict_fail_rule s c i).0 (verdict_judged s c l a ∙ e) in
+          let h = (verdict_fail_rule s c i).0 (verdict_judged s c l a ∙ ap Ok e) in
           (omega arith, (subst Fits h.row (due_fits (tile_scheme (pack_of s)) codes-sound (rows-numbered s a) (partner-fits s a) h.finding h.holds.1).1.0, written-fit (0 ∷ 0 ∷ 0 ∷ []) refl))
       by ruling.NotTestable l a e = written-fit (2 ∷ none ∷ 0 ∷ 0 ∷ 0 ∷ []) refl
-      by (ruling.Refused n t r) l a e = absurd (omega (arith, ap kind e, ruled-kind (pack_of s) c))

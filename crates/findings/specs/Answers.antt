@@ -1,9 +1,9 @@
 -- What report, verdict and lookup answer of a listing.
-use Rattle.std.specs.Prelude.{ℕ, List, [], ◌∷◌, Bool, true, false, cond, ◌&&◌, ◌||◌, eqb, ltb, ℤ}
+use Rattle.std.specs.Prelude.{ℕ, List, [], ◌∷◌, Bool, true, false, cond, ◌&&◌, ◌||◌, eqb, ltb, ℤ, Option, None, Some, Result, Ok, Err}
 use Rattle.spelling.specs.Words.{tiles}
-use Rattle.listing.specs.Refusals.{outcome}
-use Rattle.listing.specs.declared.Outcome.{Outcome}
-use Rattle.listing.specs.declared.Outcome.TheVariants as reading
+use Rattle.listing.specs.Refusals.{outcome, Outcome, refusal}
+use Rattle.listing.specs.declared.Refusal.{Refusal}
+use Rattle.listing.specs.declared.Why.TheVariants as why
 use Rattle.pack.specs.Rows.{Rows, Content, Tile, Pack, rows_in}
 use Rattle.pack.specs.Tables.{pack_of}
 use Rattle.rules.specs.Judgments.{first_row}
@@ -13,13 +13,11 @@ use Rattle.rules.specs.Tiles.{at_address}
 use Rattle.findings.specs.Findings.{Finding, of_code, findings}
 use Rattle.findings.specs.declared.Ruling.{Ruling}
 use Rattle.findings.specs.declared.Ruling.TheVariants as ruling
-use Rattle.findings.specs.declared.Located.{Located}
-use Rattle.findings.specs.declared.Located.TheVariants as look
 
 -- ---- the report: the findings of an accepted listing, and none of a refused one
 abbrev pub findings_by : Outcome → List Finding → List Finding
-findings_by (reading.Accepted l) fs = fs
-findings_by (reading.Refused n t r) fs = []
+findings_by (Ok l) fs = fs
+findings_by (Err e) fs = []
 
 unfoldable pub reported : List ℕ → List Finding
 reported s = findings_by (outcome s) (findings (pack_of s))
@@ -39,24 +37,29 @@ without_finding c n = cond (eqb n 0) (cond (always_testable c) ruling.Pass rulin
 unfoldable pub ruled : Pack → ℕ → Ruling
 ruled p c = fail_or (of_code p c (table_of c)) (without_finding c (rows_in p (table_of c)))
 
-abbrev pub ruled_by : Outcome → Ruling → Ruling
-ruled_by (reading.Accepted l) v = v
-ruled_by (reading.Refused n t r) v = ruling.Refused n t r
+-- a ruling, or why there is none
+abbrev pub Verdict : Type 0
+Verdict = Result Ruling Refusal
+
+abbrev pub ruled_by : Outcome → Ruling → Verdict
+ruled_by (Ok l) v = Ok v
+ruled_by (Err e) v = Err e
 
 -- 9: "a verdict asked for a code not listed; checked before 1"
-unfoldable pub verdict_of : List ℕ → ℕ → Ruling
-verdict_of s c = cond (eqb (table_of c) 0) (ruling.Refused 9 0 0) (ruled_by (outcome s) (ruled (pack_of s) c))
+unfoldable pub verdict_of : List ℕ → ℕ → Verdict
+verdict_of s c = cond (eqb (table_of c) 0) (Err (refusal why.Code 0 0)) (ruled_by (outcome s) (ruled (pack_of s) c))
 
 -- whether it is one of pass, fail and not testable, or a refusal
-abbrev pub is_refused : Ruling → Bool
-is_refused ruling.Pass = false
-is_refused (ruling.Fail i) = false
-is_refused ruling.NotTestable = false
-is_refused (ruling.Refused n t r) = true
+abbrev pub is_refused : {A : Type 0} → Result A Refusal → Bool
+is_refused (Ok v) = false
+is_refused (Err e) = true
 
 -- ---- the lookup: "the lowest tile row with that name and address, or none"
+abbrev pub Located : Type 0
+Located = Result (Option ℕ) Refusal
+
 unfoldable pub located_row : ℕ → ℕ → Located
-located_row k n = cond (ltb k n) (look.At k) look.Nowhere
+located_row k n = Ok (cond (ltb k n) (Some k) None)
 
 unfoldable pub tile_at : Rows Tile → List ℕ → ℤ → ℤ → ℤ → Located
 tile_at ts x z c r = located_row (first_row (at_address x z c r) ts) ts.count
@@ -66,11 +69,11 @@ unfoldable pub can_look : Rows Content → ℕ → Bool
 can_look cs k = ltb k cs.count && of_type tiles (cs.row k)
 
 unfoldable pub looked_up : Pack → ℕ → ℤ → ℤ → ℤ → Located
-looked_up p k z c r = cond (can_look p.contents k) (tile_at p.tiles (p.contents.row k).name z c r) (look.Refused 10 0 0)
+looked_up p k z c r = cond (can_look p.contents k) (tile_at p.tiles (p.contents.row k).name z c r) (Err (refusal why.NoTiles 0 0))
 
 abbrev pub located_by : Outcome → Located → Located
-located_by (reading.Accepted l) a = a
-located_by (reading.Refused n t r) a = look.Refused n t r
+located_by (Ok l) a = a
+located_by (Err e) a = Err e
 
 unfoldable pub lookup_of : List ℕ → ℕ → ℤ → ℤ → ℤ → Located
 lookup_of s k z c r = located_by (outcome s) (looked_up (pack_of s) k z c r)

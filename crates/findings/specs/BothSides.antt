@@ -18,14 +18,13 @@ use Rattle.listing.specs.Listing.{row, most, version, total, count, offset, star
 use Rattle.listing.specs.Refusals.{over, moved, text_base, text_count, null_count, faulty_text, faulty_row, lowest_faulty_row, faulty_table, bad_contents, header_reasons, row_reasons, outcome, number_of, table_of, row_of}
 use Rattle.pack.specs.Rows.{Rows, Content, MatrixSet, Matrix, Tile, Extension, rows_in}
 use Rattle.pack.specs.Tables.{tile_count, tile_in, pack_of}
-use Rattle.rules.specs.Judgments.{none, partner}
+use Rattle.rules.specs.Judgments.{none, partner, Judgment}
 use Rattle.rules.specs.References.{has_id, lacks_id}
 use Rattle.rules.specs.Contents.{of_type, is_map, none171, of151, set_named}
 use Rattle.rules.specs.Matrices.{matrix_named, at_level, fits451, measured, of451}
 use Rattle.rules.specs.Tiles.{off_grid, off561, placed, of561}
 use Rattle.rules.specs.Extensions.{of621}
 use Rattle.rules.specs.Codes.{code_at, table_at, judged, judged_none}
-use Rattle.rules.specs.declared.Judgment.{Judgment}
 use Rattle.findings.specs.Findings.{Finding, found, at_row, at_none, of_code, of_place, findings}
 use Rattle.findings.specs.Answers.{reported}
 use Rattle.findings.specs.Words.{words_of}

@@ -3,8 +3,7 @@ use Rattle.std.specs.Prelude.{ℕ, List, ℤ}
 use Rattle.columns.specs.Refusals.{column_outcome}
 use Rattle.columns.specs.Tiles.{column_pack}
 use Rattle.findings.specs.Findings.{Finding, findings}
-use Rattle.findings.specs.Answers.{findings_by, looked_up, located_by}
-use Rattle.findings.specs.declared.Located.{Located}
+use Rattle.findings.specs.Answers.{findings_by, looked_up, located_by, Located}
 
 unfoldable pub column_reported : List ℕ → List (List ℕ) → List Finding
 column_reported s cs = findings_by (column_outcome s cs) (findings (column_pack s cs))

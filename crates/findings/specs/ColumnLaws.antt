@@ -1,13 +1,11 @@
 -- How the answers from columns go with those from rows.
-use Rattle.std.specs.Prelude.{ℕ, ◌<◌, ◌≡◌, refl, List, false, ℤ, get_or}
+use Rattle.std.specs.Prelude.{ℕ, ◌<◌, ◌≡◌, refl, List, false, ℤ, get_or, Ok, Err}
 use Rattle.std.proofs.Common.{sym, ◌∙◌, true≢false}
 use Rattle.std.proofs.Math.Path.{ap}
 use Rattle.std.proofs.Math.Bool.{true}
 use Rattle.octets.specs.Slices.{nth}
 use Rattle.listing.specs.Listing.{table, tables_of, rows}
-use Rattle.listing.specs.Refusals.{outcome, is_accepted}
-use Rattle.listing.specs.declared.Outcome.{Outcome}
-use Rattle.listing.specs.declared.Outcome.TheVariants.{Accepted, Refused}
+use Rattle.listing.specs.Refusals.{outcome, is_accepted, Outcome}
 use Rattle.pack.specs.Rows.{Pack}
 use Rattle.pack.specs.Tables.{pack_of}
 use Rattle.columns.specs.Refusals.{is_short, column_outcome}
@@ -26,15 +24,15 @@ module _ (o q : Outcome) (e : o ≡ q) (p r : Pack) (same : is_accepted o ≡ tr
   findings-same = by o refl ∙ ap (λ (x : Outcome). findings_by x (findings r)) e
     where
       by : (x : Outcome) → o ≡ x → findings_by x (findings p) ≡ findings_by x (findings r)
-      by (Accepted l) f = ap findings (same (ap is_accepted f))
-      by (Refused n t i) f = refl
+      by (Ok l) f = ap findings (same (ap is_accepted f))
+      by (Err e₀) f = refl
 
   located_same : (k : ℕ) (z c i : ℤ) → located_by o (looked_up p k z c i) ≡ located_by q (looked_up r k z c i)
   located_same k z c i = by o refl ∙ ap (λ (x : Outcome). located_by x (looked_up r k z c i)) e
     where
       by : (x : Outcome) → o ≡ x → located_by x (looked_up p k z c i) ≡ located_by x (looked_up r k z c i)
-      by (Accepted l) f = ap (λ (w : Pack). looked_up w k z c i) (same (ap is_accepted f))
-      by (Refused n t j) f = refl
+      by (Ok l) f = ap (λ (w : Pack). looked_up w k z c i) (same (ap is_accepted f))
+      by (Err e₀) f = refl
 
 -- "Where the columns hold what the fill writes, both are proved equal to those from rows": of every listing, its octets p
 module _ (s : List ℕ) (p : (k : ℕ) → get_or s k 0 < 256) (cs : List (List ℕ)) (h : Holds s cs) where
@@ -63,18 +61,18 @@ module _ (s : List ℕ) (cs : List (List ℕ)) (p : (k : ℕ) → get_or (nth cs
   spelled-reported = by (column_outcome s cs) (outcome t) a b
     where
       by : (o q : Outcome) → is_accepted o ≡ true → is_accepted q ≡ true → findings_by o (findings (column_pack s cs)) ≡ findings_by q (findings (pack_of t))
-      by (Accepted l) (Accepted m) f g = ap findings spelled
-      by (Accepted l) (Refused n u i) f g = absurd (true≢false (sym g))
-      by (Refused n u i) q f g = absurd (true≢false (sym f))
+      by (Ok l) (Ok m) f g = ap findings spelled
+      by (Ok l) (Err e₀) f g = absurd (true≢false (sym g))
+      by (Err e₀) q f g = absurd (true≢false (sym f))
 
   pub spelled_lookup : (k : ℕ) (z c i : ℤ) → column_lookup s cs k z c i ≡ lookup_of t k z c i
   unfolding column_lookup lookup_of
   spelled_lookup k z c i = by (column_outcome s cs) (outcome t) a b
     where
       by : (o q : Outcome) → is_accepted o ≡ true → is_accepted q ≡ true → located_by o (looked_up (column_pack s cs) k z c i) ≡ located_by q (looked_up (pack_of t) k z c i)
-      by (Accepted l) (Accepted m) f g = ap (λ (w : Pack). looked_up w k z c i) spelled
-      by (Accepted l) (Refused n u j) f g = absurd (true≢false (sym g))
-      by (Refused n u j) q f g = absurd (true≢false (sym f))
+      by (Ok l) (Ok m) f g = ap (λ (w : Pack). looked_up w k z c i) spelled
+      by (Ok l) (Err e₀) f g = absurd (true≢false (sym g))
+      by (Err e₀) q f g = absurd (true≢false (sym f))
 
 -- "Entries past the tile count": two lots of columns, none short, with the same entries before it, have the same answers
 module _ (s : List ℕ) (cs ds : List (List ℕ)) (g : is_short (rows 5 (table s 5)) cs ≡ false) (h : is_short (rows 5 (table s 5)) ds ≡ false) (e : (k : ℕ) → k < 4 → read s cs k ≡ read s ds k) where

@@ -1,11 +1,10 @@
 -- What the three demands speak of: a finding that stands in a list, one that a rule asks for, the lowest row of a code, and a number that fits its word.
-use Rattle.std.specs.Prelude.{ℕ, ◌^◌, ◌<◌, ◌≤◌, ◌≡◌, ◌⊎◌, List, [], ◌∷◌, true}
+use Rattle.std.specs.Prelude.{ℕ, ◌^◌, ◌<◌, ◌≤◌, ◌≡◌, ◌⊎◌, List, [], ◌∷◌, true, Some}
 use Rattle.listing.specs.Refusals.{outcome, is_accepted}
 use Rattle.pack.specs.Rows.{Pack, rows_in}
 use Rattle.pack.specs.Tables.{pack_of}
 use Rattle.rules.specs.Judgments.{none}
 use Rattle.rules.specs.Codes.{table_of}
-use Rattle.rules.specs.declared.Judgment.TheVariants.{Hit}
 use Rattle.findings.specs.Findings.{Finding}
 use Rattle.findings.specs.Schemes.{Scheme, table_by, tile_scheme}
 use Rattle.findings.specs.Answers.{always_testable}
@@ -29,7 +28,7 @@ Listed c = table_of c ≡ 0 → ⊥
 -- a finding that the rule of its code asks for: of a row of the code's table, or of none
 pub record DueBy (r : Scheme) (f : Finding) : Type 0 where
   pub listed : ListedBy r f.code
-  pub says : ((f.row < r.rows (table_by r f.code)) × (r.says f.code f.row ≡ Hit f.partner)) ⊎ ((f.row ≡ none) × (r.says_none f.code ≡ Hit f.partner))
+  pub says : ((f.row < r.rows (table_by r f.code)) × (r.says f.code f.row ≡ Some f.partner)) ⊎ ((f.row ≡ none) × (r.says_none f.code ≡ Some f.partner))
 
 -- one that the 36 ask for of a pack
 abbrev pub Due : Pack → Finding → Type 0

@@ -1,19 +1,16 @@
 -- 2026-02: "no new finding may appear". The list of findings is the list before the request less some findings of 451 and 452: all else, its order and its partners stay.
-use Rattle.std.specs.Prelude.{ℕ, zero, suc, ◌≡◌, Bool, cond, ◌⊎◌, List, [], ◌∷◌, ◌++◌}
+use Rattle.rules.specs.Judgments.{Judgment}
+use Rattle.std.specs.Prelude.{ℕ, zero, suc, ◌≡◌, Bool, cond, ◌⊎◌, List, [], ◌∷◌, ◌++◌, None, Some, Ok, Err}
 use Rattle.std.proofs.Math.Path.{refl}
 use Rattle.std.proofs.Common.{sym, subst, ◌∙◌, inl, inr, eqb-true}
 use Rattle.std.proofs.Math.Bool.{true, false}
 use Rattle.std.proofs.Math.Dec.{eqb}
 use Rattle.octets.specs.Gather.{gather}
-use Rattle.listing.specs.Refusals.{outcome}
-use Rattle.listing.specs.declared.Outcome.{Outcome}
-use Rattle.listing.specs.declared.Outcome.TheVariants.{Accepted, Refused}
+use Rattle.listing.specs.Refusals.{outcome, Outcome}
 use Rattle.pack.specs.Rows.{Pack, rows_in}
 use Rattle.pack.specs.Tables.{pack_of}
 use Rattle.rules.specs.Codes.{codes, tables, code_count, code_at, table_at, judged, judged_none}
 use Rattle.rules.specs.FarLaws.{of451_before, of452_before, Fewer, fewer451, fewer452}
-use Rattle.rules.specs.declared.Judgment.{Judgment}
-use Rattle.rules.specs.declared.Judgment.TheVariants.{Clean, Hit}
 use Rattle.findings.specs.Findings.{Finding, found, at_row, at_none, of_code, of_place, findings, only}
 use Rattle.findings.specs.Schemes.{Scheme, code_in, table_in, at_row_by, at_none_by, of_code_by, of_place_by, findings_of}
 use Rattle.findings.specs.Answers.{findings_by, reported}
@@ -62,8 +59,8 @@ found_less : (c i : ℕ) (now before : Judgment) → Extents c → Fewer now bef
 found_less c i now before x (inl e) = subst (λ (v : Judgment). Less (found c i v) (found c i before)) (sym e) (clean before)
   where
     clean : (v : Judgment) → Less [] (found c i v)
-    clean Clean = none
-    clean (Hit j) = gone x none
+    clean None = none
+    clean (Some j) = gone x none
 found_less c i now before x (inr e) = subst (λ (v : Judgment). Less (found c i v) (found c i before)) (sym e) (all-kept (found c i before))
 
 module _ (p : Pack) (i : ℕ) where
@@ -99,8 +96,8 @@ unfolding reported reported_before
 no_new_reported s = by (outcome s)
   where
     by : (o : Outcome) → Less (findings_by o (findings (pack_of s))) (findings_by o (findings_before (pack_of s)))
-    by (Accepted l) = no_new_finding (pack_of s)
-    by (Refused n t r) = none
+    by (Ok l) = no_new_finding (pack_of s)
+    by (Err e₀) = none
 
 -- so the findings of every other code are those before
 only_same : (c : ℕ) → (Extents c → ⊥) → {xs ys : List Finding} → Less xs ys → only c xs ≡ only c ys

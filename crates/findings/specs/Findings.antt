@@ -1,11 +1,9 @@
 -- The findings of a pack: "by code, then row, none last".
-use Rattle.std.specs.Prelude.{ℕ, ◌<◌, ◌≡◌, ◌⊎◌, List, [], ◌∷◌, ◌++◌, cond, eqb}
+use Rattle.std.specs.Prelude.{ℕ, ◌<◌, ◌≡◌, ◌⊎◌, List, [], ◌∷◌, ◌++◌, cond, eqb, None, Some}
 use Rattle.octets.specs.Gather.{gather}
 use Rattle.pack.specs.Rows.{Pack, rows_in}
-use Rattle.rules.specs.Judgments.{none}
+use Rattle.rules.specs.Judgments.{none, Judgment}
 use Rattle.rules.specs.Codes.{code_count, code_at, table_at, judged, judged_none}
-use Rattle.rules.specs.declared.Judgment.{Judgment}
-use Rattle.rules.specs.declared.Judgment.TheVariants.{Clean, Hit}
 
 -- "a finding is three u32 words: code, row, partner"
 pub record Finding : Type 0 where
@@ -15,8 +13,8 @@ pub record Finding : Type 0 where
 
 -- what a judgment gives: no finding, or one
 abbrev pub found : ℕ → ℕ → Judgment → List Finding
-found c i Clean = []
-found c i (Hit j) = record { code = c; row = i; partner = j } ∷ []
+found c i None = []
+found c i (Some j) = record { code = c; row = i; partner = j } ∷ []
 
 -- the finding that a row has by a code, if any
 unfoldable pub at_row : Pack → ℕ → ℕ → List Finding

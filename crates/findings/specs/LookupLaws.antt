@@ -1,5 +1,5 @@
 -- "Where no doubled-address finding stands at an address, what a lookup returns there is the only tile there."
-use Rattle.std.specs.Prelude.{ℕ, ◌<◌, ◌≤◌, ◌≡◌, Bool, false, cond, ◌&&◌, List, ltb, ℤ}
+use Rattle.std.specs.Prelude.{ℕ, ◌<◌, ◌≤◌, ◌≡◌, Bool, false, cond, ◌&&◌, List, ltb, ℤ, Some, None, Ok}
 use Rattle.std.proofs.Math.Path.{refl, sym, subst}
 use Rattle.std.proofs.Common.{◌∙◌, arith, eq-or-lt_of_le, lt_of_not-le, ltb-true}
 use Rattle.std.proofs.Math.Bool.{true, and-eq-true_iff}
@@ -14,15 +14,12 @@ use Rattle.octets.proofs.SearchLaws.{first-lowest, any_some}
 use Rattle.octets.specs.Texts.{same}
 use Rattle.octets.proofs.TextLaws.{same_equal}
 use Rattle.pack.specs.Rows.{Tile, Pack, rows_in}
-use Rattle.rules.specs.Judgments.{partner, first_row}
+use Rattle.rules.specs.Judgments.{partner, first_row, Judgment}
 use Rattle.rules.specs.Tiles.{at_address, of541}
 use Rattle.rules.specs.Codes.{code_count, code_at, table_at, judged}
-use Rattle.rules.specs.declared.Judgment.{Judgment}
-use Rattle.rules.specs.declared.Judgment.TheVariants.{Hit}
 use Rattle.findings.specs.Findings.{Finding, found, at_row, of_code, of_place, findings, Every}
 use Rattle.findings.specs.ListLaws.{every-left, every-part}
-use Rattle.findings.specs.Answers.{located_row, tile_at}
-use Rattle.findings.specs.declared.Located.TheVariants.{At, Nowhere}
+use Rattle.findings.specs.Answers.{located_row, tile_at, Located}
 
 -- two tiles at one address: what is at the address of the one is at that of the other
 both : (a b : Bool) → (a && b) ≡ true → (a ≡ true) × (b ≡ true)
@@ -37,11 +34,11 @@ same_address x z c r t q e =
     rw (sym (same_equal x t.name h.0), sym (eq_z_true z t.zoom i.0), sym (eq_z_true c t.column j.0), sym (eq_z_true r t.row j.1))
 
 -- a lookup that finds row k has found it as the first, and below the count
-pub located_at : (i n k : ℕ) → located_row i n ≡ At k → (i ≡ k) × (i < n)
+pub located_at : (i n k : ℕ) → located_row i n ≡ Ok (Some k) → (i ≡ k) × (i < n)
 unfolding located_row
 located_at i n k e = by (ltb i n) refl e
   where
-    by : (b : Bool) → ltb i n ≡ b → cond b (At i) Nowhere ≡ At k → (i ≡ k) × (i < n)
+    by : (b : Bool) → ltb i n ≡ b → ◌≡◌ {A = Located} (Ok (cond b (Some i) None)) (Ok (Some k)) → (i ≡ k) × (i < n)
     by true h g = (cc, ltb-true _ _ h)
     by false h g = let w : ◌≡◌ {A = ℕ} 0 1 = cc in omega arith
 
@@ -68,7 +65,7 @@ module _ (p : Pack) (x : List ℕ) (z c r : ℤ) (clear : Every (Undoubled p x z
       (every-left (Undoubled p x z c r) (gather p.tiles.count (λ i. found 541 i (judged p 541 i))) _
       (every-part (Undoubled p x z c r) (of_place p) code_count 28 (omega arith) clear))
 
-  refuted : (j : ℕ) (v : Judgment) → v ≡ Hit (first (λ m. at_address (p.tiles.row j).name (p.tiles.row j).zoom (p.tiles.row j).column (p.tiles.row j).row (p.tiles.row m)) j)
+  refuted : (j : ℕ) (v : Judgment) → v ≡ Some (first (λ m. at_address (p.tiles.row j).name (p.tiles.row j).zoom (p.tiles.row j).column (p.tiles.row j).row (p.tiles.row m)) j)
       → here j ≡ true → Every (Undoubled p x z c r) (found 541 j v) → ⊥
   refuted j v e h a = (subst (λ (w : Judgment). Every (Undoubled p x z c r) (found 541 j w)) e a).0 refl h
 
@@ -78,7 +75,7 @@ module _ (p : Pack) (x : List ℕ) (z c r : ℤ) (clear : Every (Undoubled p x z
   none_after j k l m e f = refuted j (judged p 541 j) (judged541 j ∙ simp (hit j k m e f)) e (at-row j l)
 
   -- what a lookup returns is the only tile there
-  pub lookup_only : (k : ℕ) → tile_at p.tiles x z c r ≡ At k → (j : ℕ) → j < p.tiles.count → here j ≡ true → j ≡ k
+  pub lookup_only : (k : ℕ) → tile_at p.tiles x z c r ≡ Ok (Some k) → (j : ℕ) → j < p.tiles.count → here j ≡ true → j ≡ k
   unfolding tile_at
   lookup_only k e j l h =
       let q = located_at (first_row (at_address x z c r) p.tiles) p.tiles.count k e in

@@ -1,5 +1,5 @@
 -- "Demand 3 holds for this report on its own": the report on metadata holds all findings of its eight codes, each once, by code then row, and no other; and each number is its word.
-use Rattle.std.specs.Prelude.{ℕ, ◌<◌, ◌≤◌, ◌≡◌, Bool, cond, ◌⊎◌, ◌↔◌, ℤ, length}
+use Rattle.std.specs.Prelude.{ℕ, ◌<◌, ◌≤◌, ◌≡◌, Bool, cond, ◌⊎◌, ◌↔◌, ℤ, length, None, Some, Ok, Err}
 use Rattle.std.proofs.Math.Path.{refl, subst}
 use Rattle.std.proofs.Common.{sym, inl, inr, arith}
 use Rattle.std.proofs.Math.Bool.{true, false}
@@ -7,16 +7,12 @@ use Rattle.std.proofs.lemmas.Bool.{false≢true}
 use Rattle.std.proofs.Math.Logic.{⊎_elim}
 use mathlib.Core.List.{List, [], ◌∷◌}
 use Rattle.listing.specs.Listing.{layout}
-use Rattle.listing.specs.Refusals.{reasons_in, decide, outcome, outcome_with, is_accepted}
+use Rattle.listing.specs.Refusals.{reasons_in, decide, outcome, outcome_with, is_accepted, Outcome}
 use Rattle.listing.specs.ReasonLaws.{Free, Given, given_or_none, decide_stop, decide-none}
 use Rattle.listing.proofs.FurtherLaws.{further_refused, further_rest}
 use Rattle.listing.specs.declared.Format.TheVariants.{Metadata}
-use Rattle.listing.specs.declared.Outcome.{Outcome}
-use Rattle.listing.specs.declared.Outcome.TheVariants.{Accepted, Refused}
-use Rattle.rules.specs.Judgments.{none, some}
+use Rattle.rules.specs.Judgments.{none, some, Judgment}
 use Rattle.rules.specs.CodeLaws.{Sound}
-use Rattle.rules.specs.declared.Judgment.{Judgment}
-use Rattle.rules.specs.declared.Judgment.TheVariants.{Clean, Hit}
 use Rattle.octets.specs.Numbers.{eq_z}
 use Rattle.octets.specs.Texts.{Nullable, There, Null}
 use Rattle.pack.specs.Rows.{Rows, Content}
@@ -69,8 +65,8 @@ module _ (s m : List ℕ) where
   metadata_none = by (metadata_outcome s m)
     where
       by : (o : Outcome) → is_accepted o ≡ false → findings_by o (findings_of (metadata_scheme (notebook_of s m))) ≡ []
-      by (Accepted l) e = absurd (false≢true (sym e))
-      by (Refused n t r) e = refl
+      by (Ok l) e = absurd (false≢true (sym e))
+      by (Err e₀) e = refl
 
   pub metadata_length : length (metadata_reported s m) ≤ 32776
   unfolding metadata_reported
@@ -78,14 +74,14 @@ module _ (s m : List ℕ) where
 
 -- ---- "partner none"
 unfoldable Alone : Judgment → Type 0
-Alone Clean = Unit
-Alone (Hit j) = j ≡ none
+Alone None = Unit
+Alone (Some j) = j ≡ none
 
-clean : Alone Clean
+clean : Alone None
 unfolding Alone
 clean = tt
 
-alone : Alone (Hit none)
+alone : Alone (Some none)
 unfolding Alone
 alone = refl
 
@@ -94,11 +90,11 @@ either true x y a c = a
 either false x y a c = c
 
 contents-alone : (cs : Rows Content) (t : Nullable (List ℕ)) → Alone (in_contents cs t)
-contents-alone cs (There x) = either (some (content_named x) cs) Clean (Hit none) clean alone
+contents-alone cs (There x) = either (some (content_named x) cs) None (Some none) clean alone
 contents-alone cs Null = alone
 
 parent_alone : (ns : Rows Note) (id : ℤ) (p : Nullable ℤ) → Alone (wrong_parent ns id p)
-parent_alone ns id (There p) = either (eq_z p id) (Hit none) (cond (some (has_id p) ns) Clean (Hit none)) alone (either (some (has_id p) ns) Clean (Hit none) clean alone)
+parent_alone ns id (There p) = either (eq_z p id) (Some none) (cond (some (has_id p) ns) None (Some none)) alone (either (some (has_id p) ns) None (Some none) clean alone)
 parent_alone ns id Null = clean
 
 judged-alone : (p : Notebook) (c i : ℕ) → Alone (judged p c i)
@@ -110,9 +106,9 @@ module _ (s m : List ℕ) where
   unfolding Alone
   due_alone f d =
       ⊎_elim
-      (λ (q : (f.row < rows_of (notebook_of s m) (table_by (metadata_scheme (notebook_of s m)) f.code)) × (judged (notebook_of s m) f.code f.row ≡ Hit f.partner)).
+      (λ (q : (f.row < rows_of (notebook_of s m) (table_by (metadata_scheme (notebook_of s m)) f.code)) × (judged (notebook_of s m) f.code f.row ≡ Some f.partner)).
       subst Alone q.1 (judged-alone (notebook_of s m) f.code f.row))
-      (λ (q : (f.row ≡ none) × (Clean ≡ Hit f.partner)). subst Alone q.1 clean)
+      (λ (q : (f.row ≡ none) × (None ≡ Some f.partner)). subst Alone q.1 clean)
       d.says
 
   pub metadata_partner : (f : Finding) → Stands f (metadata_reported s m) → f.partner ≡ none
@@ -128,15 +124,15 @@ module _ (s m : List ℕ) where
 
   -- number, table and row
   rest-fits : (o : Outcome) → is_accepted o ≡ true → AllFit (place_of o) → ((k : ℕ) × Given (reasons_in Metadata m) k) ⊎ Free (reasons_in Metadata m) → AllFit (place_of (decide (reasons_in Metadata m) o))
-  rest-fits o a z (inl g) = rw (decide_stop Refused (reasons_in Metadata m) o g.0 g.1.passed g.1.there) (given-fits Metadata m g.0 o g.1)
-  rest-fits o a z (inr f) = rw (decide-none Refused (reasons_in Metadata m) o f) z
+  rest-fits o a z (inl g) = rw (decide_stop Err (reasons_in Metadata m) o g.0 g.1.passed g.1.there) (given-fits Metadata m g.0 o g.1)
+  rest-fits o a z (inr f) = rw (decide-none Err (reasons_in Metadata m) o f) z
 
   pub metadata_place_fits : AllFit (place_of (metadata_outcome s m))
   unfolding metadata_outcome
   metadata_place_fits = by (is_accepted (outcome s)) refl
     where
       by : (b : Bool) → is_accepted (outcome s) ≡ b → AllFit (place_of (outcome_with s (reasons_in Metadata m)))
-      by true e = rw (further_rest s (reasons_in Metadata m) e) (rest-fits (Accepted (layout s)) refl (written-fit (0 ∷ 0 ∷ 0 ∷ []) refl) (given_or_none (reasons_in Metadata m)))
+      by true e = rw (further_rest s (reasons_in Metadata m) e) (rest-fits (Ok (layout s)) refl (written-fit (0 ∷ 0 ∷ 0 ∷ []) refl) (given_or_none (reasons_in Metadata m)))
       by false e = rw (further_refused s (reasons_in Metadata m) e) (place-fits s)
 
   pub metadata_fits : (b : List ℕ) → AllFit (report_words_by (metadata_outcome s m) (metadata_reported s m) b)

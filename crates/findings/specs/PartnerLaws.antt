@@ -1,5 +1,5 @@
 -- A partner is a row of a table, or none: so it fits its word where the rows do.
-use Rattle.std.specs.Prelude.{ℕ, ◌<◌, ◌≤◌, ◌≡◌, List, Bool, cond, ℤ}
+use Rattle.std.specs.Prelude.{ℕ, ◌<◌, ◌≤◌, ◌≡◌, List, Bool, cond, ℤ, None, Some}
 use Rattle.std.proofs.Math.Path.{refl, subst}
 use Rattle.std.proofs.Math.Bool.{true, false}
 use Rattle.std.proofs.Math.Logic.{inl, inr, ⊎_elim}
@@ -8,7 +8,7 @@ use borrow.Author.Tests.{ltb-true}
 use Rattle.std.proofs.Math.Dec.{ltb}
 use Rattle.octets.specs.Texts.{Nullable, There, Null}
 use Rattle.pack.specs.Rows.{Rows, Reference, Pack, rows_in}
-use Rattle.rules.specs.Judgments.{none, partner, some}
+use Rattle.rules.specs.Judgments.{none, partner, some, Judgment}
 use Rattle.rules.specs.References.{of101, of111, of112, of113, lacks_id, has_id}
 use Rattle.rules.specs.Contents.{of131, of151, lacks161, of161, of162, of401, none171}
 use Rattle.rules.specs.Sets.{of391, of392, of411}
@@ -16,8 +16,6 @@ use Rattle.rules.specs.Matrices.{measured, of351, of431, of432, of451, of452, of
 use Rattle.rules.specs.Tiles.{placed, of341, of441, of541, of551, of561, of571}
 use Rattle.rules.specs.Extensions.{lacks601, of601, of621, of622, of641}
 use Rattle.rules.specs.Codes.{table_of, judged, judged_none}
-use Rattle.rules.specs.declared.Judgment.{Judgment}
-use Rattle.rules.specs.declared.Judgment.TheVariants.{Clean, Hit}
 use Rattle.findings.specs.Findings.{Finding}
 use Rattle.findings.specs.Schemes.{table_by}
 use Rattle.findings.specs.Demands.{Due, Partner}
@@ -25,14 +23,14 @@ use Rattle.findings.specs.Demands.{Due, Partner}
 module _ (p : Pack) where
   -- what a judgment gives is such a partner
   unfoldable Partnered : Judgment → Type 0
-  Partnered Clean = Unit
-  Partnered (Hit j) = Partner p j
+  Partnered None = Unit
+  Partnered (Some j) = Partner p j
 
-  clean : Partnered Clean
+  clean : Partnered None
   unfolding Partnered
   clean = tt
 
-  alone : Partnered (Hit none)
+  alone : Partnered (Some none)
   unfolding Partnered
   alone = inl refl
 
@@ -45,12 +43,12 @@ module _ (p : Pack) where
   unfolding partner Partnered
   row_of r n t h = by (ltb r n) refl
     where
-      by : (b : Bool) → ltb r n ≡ b → Partnered (cond b (Hit r) Clean)
+      by : (b : Bool) → ltb r n ≡ b → Partnered (cond b (Some r) None)
       by true e = inr (t, omega (arith, ltb-true r n e))
       by false e = tt
 
   of_161 : (rs : Rows Reference) (id : Nullable ℤ) → Partnered (lacks161 rs id)
-  of_161 rs (There id) = either (some (has_id id) rs) Clean (Hit none) clean alone
+  of_161 rs (There id) = either (some (has_id id) rs) None (Some none) clean alone
   of_161 rs Null = clean
 
   of_601 : (table column : Nullable (List ℕ)) → Partnered (lacks601 table column)
@@ -79,7 +77,7 @@ module _ (p : Pack) where
   unfolding Partnered table_of table_by
   due_partner f d =
       ⊎_elim
-      (λ (q : (f.row < rows_in p (table_of f.code)) × (judged p f.code f.row ≡ Hit f.partner)).
+      (λ (q : (f.row < rows_in p (table_of f.code)) × (judged p f.code f.row ≡ Some f.partner)).
       subst Partnered q.1 (judged_partnered f.code f.row (λ r. row_of r f.row (table_of f.code) (omega (arith, q.0)))))
-      (λ (q : (f.row ≡ none) × (judged_none p f.code ≡ Hit f.partner)). subst Partnered q.1 (none_partnered f.code))
+      (λ (q : (f.row ≡ none) × (judged_none p f.code ≡ Some f.partner)). subst Partnered q.1 (none_partnered f.code))
       d.says

@@ -9,12 +9,11 @@ use Rattle.doubles.specs.DoublesWorked.{double}
 use Rattle.doubles.specs.FarWorked.{hill, wide_one}
 use Rattle.spelling.specs.Words.{tiles, zoom_other}
 use Rattle.pack.specs.Rows.{Rows, Content, MatrixSet, Matrix, Tile, Extension}
-use Rattle.rules.specs.Judgments.{none, partner}
+use Rattle.rules.specs.Judgments.{none, partner, Judgment}
 use Rattle.rules.specs.Contents.{of_type, set_named, breaks162, of162}
 use Rattle.rules.specs.Matrices.{matrix_named, tile_named, frees, near_twice, breaks351, of351, fits451, fits452, measured, of451, of452, finer, breaks531, of531}
 use Rattle.rules.specs.Tiles.{at_address, at_most, at_least, of541, of551, off_grid, off561, placed}
 use Rattle.rules.specs.Extensions.{of601, equals622, of622}
-use Rattle.rules.specs.declared.Judgment.{Judgment}
 use Rattle.findings.specs.BothSides.{given, extent1024}
 
 -- ---- rows written out

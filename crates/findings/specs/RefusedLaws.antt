@@ -1,6 +1,6 @@
 -- "Every octet string is judged, or refused under one numbered reason": the reasons 1 to 8 and 13, their number and place.
 use Prim.Native.Nat.{ℕ, zero, suc, ◌+◌, ◌<◌, ◌≤◌}
-use Rattle.std.specs.Prelude.{◌≡◌, Bool, true, false, ◌&&◌, List, [], ◌∷◌, ◌⊎◌, ◌↔◌, ltb, length}
+use Rattle.std.specs.Prelude.{◌≡◌, Bool, true, false, ◌&&◌, List, [], ◌∷◌, ◌⊎◌, ◌↔◌, ltb, length, Ok}
 use Rattle.std.proofs.Math.Path.{refl}
 use Rattle.std.proofs.Common.{sym, ap, ◌∙◌, subst, inl, inr}
 use Rattle.std.proofs.Math.Bool.{not, and-eq-true_iff}
@@ -11,17 +11,15 @@ use borrow.Author.Tests.{ltb-true, ltb-false, not-false}
 use Rattle.octets.specs.Search.{first, any}
 use Rattle.octets.proofs.SearchLaws.{first-lowest, none-at}
 use Rattle.octets.specs.Texts.{outside}
-use Rattle.octets.specs.declared.Text.{Text}
+use Rattle.octets.specs.Texts.{Text}
 use Rattle.listing.specs.Formats.{longest, table_count, table_number, row_in}
 use Rattle.listing.specs.Listing.{table_in, rows_as, layout}
-use Rattle.listing.specs.Refusals.{Reason, over, moved, ill, faulty_row, lowest_faulty_row, faulty_table, flagged, header_reasons, row_reasons, reasons_in, outcome, number_of, table_of, row_of, is_accepted}
+use Rattle.listing.specs.Refusals.{Reason, over, moved, ill, faulty_row, lowest_faulty_row, faulty_table, flagged, header_reasons, row_reasons, reasons_in, outcome, number_of, table_of, row_of, is_accepted, Outcome}
 use Rattle.listing.specs.TableLaws.{tables-few, longest-short, short_in}
 use Rattle.listing.specs.ReasonLaws.{there_at, number_at, Given, given-one, given_or_none, there-within}
 use Rattle.listing.specs.RefusalLaws.{reasons, reasons_in_lem, readers_own, answer_at, refused-exactly, refused-place, accepted-exactly, none-numbered, accepted-is}
 use Rattle.listing.specs.declared.Format.{Format}
 use Rattle.listing.specs.declared.Format.TheVariants.{Edition1, Metadata}
-use Rattle.listing.specs.declared.Outcome.{Outcome}
-use Rattle.listing.specs.declared.Outcome.TheVariants.{Accepted}
 use Rattle.findings.specs.Demands.{AllFit}
 
 -- numbers that are written out fit their words: one computed test
@@ -116,8 +114,8 @@ module _ (f : Format) (s : List ℕ) where
 
 -- of one of edition 1
 module _ (s : List ℕ) where
-  given_fits_1 : (k : ℕ) → Given (reasons s) k → AllFit (place_of (answer_at (reasons s) k (Accepted (layout s))))
-  given_fits_1 = subst (λ (xs : List Reason). (k : ℕ) → Given xs k → AllFit (place_of (answer_at xs k (Accepted (layout s))))) (sym (reasons_in_lem s)) (λ k g. given-fits Edition1 s k (Accepted (layout s)) g)
+  given_fits_1 : (k : ℕ) → Given (reasons s) k → AllFit (place_of (answer_at (reasons s) k (Ok (layout s))))
+  given_fits_1 = subst (λ (xs : List Reason). (k : ℕ) → Given xs k → AllFit (place_of (answer_at xs k (Ok (layout s))))) (sym (reasons_in_lem s)) (λ k g. given-fits Edition1 s k (Ok (layout s)) g)
 
   pub place-fits : AllFit (number_of (outcome s) ∷ table_of (outcome s) ∷ row_of (outcome s) ∷ [])
   place-fits = by (judged_or_refused s)

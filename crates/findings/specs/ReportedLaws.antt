@@ -1,14 +1,12 @@
 -- "The report holds all findings, each once, by rule then row, and no other": of every octet string.
-use Rattle.std.specs.Prelude.{ℕ, ◌<◌, ◌≡◌, true, ◌↔◌}
+use Rattle.std.specs.Prelude.{ℕ, ◌<◌, ◌≡◌, true, ◌↔◌, Ok, Err}
 use Rattle.std.proofs.Math.Path.{refl, ap}
 use Rattle.std.proofs.Common.{sym, subst}
 use Rattle.std.proofs.Math.Bool.{false}
 use Rattle.std.proofs.lemmas.Bool.{false≢true}
 use mathlib.Core.List.{List, []}
-use Rattle.listing.specs.Refusals.{outcome, is_accepted}
+use Rattle.listing.specs.Refusals.{outcome, is_accepted, Outcome}
 use Rattle.listing.specs.RefusalLaws.{accepted-is}
-use Rattle.listing.specs.declared.Outcome.{Outcome}
-use Rattle.listing.specs.declared.Outcome.TheVariants.{Accepted, Refused}
 use Rattle.pack.specs.Rows.{Pack}
 use Rattle.pack.specs.Tables.{pack_of}
 use Rattle.pack.specs.PackLaws.{rows-numbered}
@@ -45,8 +43,8 @@ module _ (s : List ℕ) where
   reported-none = by (outcome s)
     where
       by : (o : Outcome) → is_accepted o ≡ false → findings_by o (findings (pack_of s)) ≡ []
-      by (Accepted l) e = absurd (false≢true (sym e))
-      by (Refused n t r) e = refl
+      by (Ok l) e = absurd (false≢true (sym e))
+      by (Err e₀) e = refl
 
   -- it is the report by a scheme
   pub tile-reported : findings_by (outcome s) (findings_of (tile_scheme (pack_of s))) ≡ reported s

@@ -1,6 +1,6 @@
 -- The findings of a scheme: all that its rules ask for, each once, in order, and no other; how many there are; and that each number fits its word. Of every report.
 use Prim.Native.Nat.{ℕ, zero, suc, ◌+◌, ◌*◌, ◌<◌, ◌≤◌}
-use Rattle.std.specs.Prelude.{◌≡◌, refl, true, ◌⊎◌, ◌↔◌, length}
+use Rattle.std.specs.Prelude.{◌≡◌, refl, true, ◌⊎◌, ◌↔◌, length, None, Some, Ok, Err}
 use Rattle.std.proofs.Common.{sym, ◌∙◌, arith}
 use Rattle.std.proofs.Math.Path.{ap, subst}
 use Rattle.std.proofs.lemmas.Bool.{false≢true}
@@ -9,13 +9,9 @@ use Rattle.std.proofs.Math.Logic.{inl, inr, ⊎_elim}
 use Rattle.std.proofs.Math.ListN.{length-append}
 use Rattle.octets.specs.Gather.{gather}
 use Rattle.octets.specs.GatherLaws.{gather-length}
-use Rattle.listing.specs.Refusals.{is_accepted}
-use Rattle.listing.specs.declared.Outcome.{Outcome}
-use Rattle.listing.specs.declared.Outcome.TheVariants.{Accepted, Refused}
-use Rattle.rules.specs.Judgments.{none}
+use Rattle.listing.specs.Refusals.{is_accepted, Outcome}
+use Rattle.rules.specs.Judgments.{none, Judgment}
 use Rattle.rules.specs.CodeLaws.{Sound, codes-ascend, codes-agree, codes-fit, codes-listed}
-use Rattle.rules.specs.declared.Judgment.{Judgment}
-use Rattle.rules.specs.declared.Judgment.TheVariants.{Clean, Hit}
 use Rattle.findings.specs.Findings.{Finding, found, only, Every, Before, Ordered}
 use Rattle.findings.specs.Schemes.{Scheme, code_in, table_in, table_by, at_row_by, at_none_by, of_code_by, of_place_by, findings_of}
 use Rattle.findings.specs.Answers.{findings_by}
@@ -26,27 +22,27 @@ use Rattle.findings.specs.StandsLaws.{stands_left, stands_right, stands_either, 
 
 -- ---- what a judgment gives: one finding at most, of its code and row, with its partner
 found-length : (c i : ℕ) (v : Judgment) → length (found c i v) ≤ 1
-found-length c i Clean = omega arith
-found-length c i (Hit j) = omega arith
+found-length c i None = omega arith
+found-length c i (Some j) = omega arith
 
 found-ordered : (c i : ℕ) (v : Judgment) → Ordered (found c i v)
-found-ordered c i Clean = tt
-found-ordered c i (Hit j) = (tt, tt)
+found-ordered c i None = tt
+found-ordered c i (Some j) = (tt, tt)
 
 abbrev At : ℕ → ℕ → Finding → Type 0
 At c i f = (f.code ≡ c) × (f.row ≡ i)
 
 found_at : (c i : ℕ) (v : Judgment) → Every (At c i) (found c i v)
-found_at c i Clean = tt
-found_at c i (Hit j) = ((refl, refl), tt)
+found_at c i None = tt
+found_at c i (Some j) = ((refl, refl), tt)
 
-found_stands : (f : Finding) (v : Judgment) → v ≡ Hit f.partner → Stands f (found f.code f.row v)
+found_stands : (f : Finding) (v : Judgment) → v ≡ Some f.partner → Stands f (found f.code f.row v)
 found_stands f v e = subst (λ (w : Judgment). Stands f (found f.code f.row w)) (sym e) (inl refl)
 
-found-only : (f : Finding) (c i : ℕ) (v : Judgment) → Stands f (found c i v) → (f.code ≡ c) × (f.row ≡ i) × (v ≡ Hit f.partner)
-found-only f c i Clean h = elim h [ ]
-found-only f c i (Hit j) (inl e) = (ap (λ (g : Finding). g.code) e, ap (λ (g : Finding). g.row) e, sym (ap (λ (g : Finding). Hit g.partner) e))
-found-only f c i (Hit j) (inr h) = elim h [ ]
+found-only : (f : Finding) (c i : ℕ) (v : Judgment) → Stands f (found c i v) → (f.code ≡ c) × (f.row ≡ i) × (v ≡ Some f.partner)
+found-only f c i None h = elim h [ ]
+found-only f c i (Some j) (inl e) = (ap (λ (g : Finding). g.code) e, ap (λ (g : Finding). g.row) e, sym (ap (λ (g : Finding). Some g.partner) e))
+found-only f c i (Some j) (inr h) = elim h [ ]
 
 -- ---- what the judgments of rows give: in order
 -- of a code, and of a row below n
@@ -172,11 +168,11 @@ module _ (r : Scheme) (sound : Sound r.codes r.tables) where
         rows : List Finding
         rows = gather (r.rows (table_by r f.code)) (at_row_by r f.code)
 
-        row : (f.row < r.rows (table_by r f.code)) × (r.says f.code f.row ≡ Hit f.partner) → Stands f (rows ++ at_none_by r f.code)
+        row : (f.row < r.rows (table_by r f.code)) × (r.says f.code f.row ≡ Some f.partner) → Stands f (rows ++ at_none_by r f.code)
         row q =
             stands_left f rows (at_none_by r f.code) (stands_gathered f (at_row_by r f.code) (r.rows (table_by r f.code)) f.row q.0 (found_stands f (r.says f.code f.row) q.1))
 
-        without : (f.row ≡ none) × (r.says_none f.code ≡ Hit f.partner) → Stands f (rows ++ at_none_by r f.code)
+        without : (f.row ≡ none) × (r.says_none f.code ≡ Some f.partner) → Stands f (rows ++ at_none_by r f.code)
         without q =
             stands_right f rows (at_none_by r f.code) (subst (λ (i : ℕ). Stands f (found f.code i (r.says_none f.code))) q.0 (found_stands f (r.says_none f.code) q.1))
 
@@ -226,7 +222,7 @@ module _ (r : Scheme) (sound : Sound r.codes r.tables) where
           code : ((k : ℕ) × (k < length r.codes) × (code_in r k ≡ f.code)) → Fits f.code
           code k = subst Fits k.2 (code_fits k.0 k.1)
 
-          row : ((f.row < r.rows (table_by r f.code)) × (r.says f.code f.row ≡ Hit f.partner)) ⊎ ((f.row ≡ none) × (r.says_none f.code ≡ Hit f.partner)) → Fits f.row
+          row : ((f.row < r.rows (table_by r f.code)) × (r.says f.code f.row ≡ Some f.partner)) ⊎ ((f.row ≡ none) × (r.says_none f.code ≡ Some f.partner)) → Fits f.row
           row (inl q) = omega (arith, q.0, numbered (table_by r f.code))
           row (inr q) = omega (arith, q.0)
 
@@ -240,8 +236,8 @@ module _ (o : Outcome) (r : Scheme) where
   either P n h = by o h
     where
       by : (q : Outcome) → (is_accepted q ≡ true → P (findings_of r)) → P (findings_by q (findings_of r))
-      by (Accepted l) h = h refl
-      by (Refused m t i) h = n
+      by (Ok l) h = h refl
+      by (Err e₀) h = n
 
   pub outcome-length : (m : ℕ) → (is_accepted o ≡ true → (t : ℕ) → r.rows t ≤ m) → length (findings_by o (findings_of r)) ≤ length r.codes * (m + 1)
   outcome-length m most = either (λ fs. length fs ≤ length r.codes * (m + 1)) (omega arith) (λ a. scheme_length r m (most a))
@@ -252,8 +248,8 @@ module _ (o : Outcome) (r : Scheme) where
     outcome-exactly f = by o
       where
         by : (q : Outcome) → Stands f (findings_by q (findings_of r)) ↔ ((is_accepted q ≡ true) × DueBy r f)
-        by (Accepted l) = (λ h. (refl, (scheme_exactly r sound f).0 h), λ d. (scheme_exactly r sound f).1 d.1)
-        by (Refused n t i) = (λ h. absurd h, λ d. absurd (false≢true d.0))
+        by (Ok l) = (λ h. (refl, (scheme_exactly r sound f).0 h), λ d. (scheme_exactly r sound f).1 d.1)
+        by (Err e₀) = (λ h. absurd h, λ d. absurd (false≢true d.0))
 
     module _ (numbered : is_accepted o ≡ true → (t : ℕ) → r.rows t ≤ none) where
       -- "by rule then row"

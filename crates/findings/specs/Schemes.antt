@@ -2,9 +2,8 @@
 use Rattle.std.specs.Prelude.{ℕ, List, ◌++◌, get_or, length}
 use Rattle.octets.specs.Gather.{gather}
 use Rattle.pack.specs.Rows.{Pack, rows_in}
-use Rattle.rules.specs.Judgments.{none}
+use Rattle.rules.specs.Judgments.{none, Judgment}
 use Rattle.rules.specs.Codes.{codes, tables, seek, judged, judged_none}
-use Rattle.rules.specs.declared.Judgment.{Judgment}
 use Rattle.findings.specs.Findings.{Finding, found}
 
 -- What a report goes by: its codes in their order, and the table of each; how many rows a table has; what the rule of a code says of a row, and without one

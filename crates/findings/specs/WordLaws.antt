@@ -1,5 +1,5 @@
 -- Numbers fit their words: each number of an answer is below 2^32, so that its four octets read as the number itself.
-use Rattle.std.specs.Prelude.{ℕ, zero, suc, ◌+◌, ◌*◌, ◌-◌, ◌<◌, ◌≤◌, min, ◌≡◌, List, [], ◌∷◌, ◌++◌, ℤ, length, get_or, take, drop}
+use Rattle.std.specs.Prelude.{ℕ, zero, suc, ◌+◌, ◌*◌, ◌-◌, ◌<◌, ◌≤◌, min, ◌≡◌, List, [], ◌∷◌, ◌++◌, ℤ, length, get_or, take, drop, None, Some, Ok, Err}
 use Rattle.std.proofs.Math.Path.{refl, ap}
 use Rattle.std.proofs.Common.{sym, ◌∙◌, subst, append_assoc, inl, inr, le_of_suc-le-suc, not-suc-le-zero, length-take}
 use Rattle.std.proofs.Math.Bool.{true}
@@ -9,8 +9,8 @@ use Rattle.std.proofs.Math.Seq.{take-append-add}
 use Rattle.octets.specs.Octets.{le32, word, filled}
 use Rattle.octets.specs.BufferLaws.{filled-past}
 use Rattle.octets.specs.OctetLaws.{le32-word, le32-past}
-use Rattle.listing.specs.Refusals.{outcome, is_accepted}
-use Rattle.listing.specs.declared.Outcome.TheVariants as reading
+use Rattle.listing.specs.Refusals.{outcome, is_accepted, number}
+use Rattle.listing.specs.declared.Refusal.{Refusal}
 use Rattle.pack.specs.Rows.{rows_in}
 use Rattle.pack.specs.Tables.{pack_of}
 use Rattle.pack.specs.PackLaws.{rows-most, rows-numbered}
@@ -18,16 +18,14 @@ use Rattle.rules.specs.Judgments.{none}
 use Rattle.rules.specs.CodeLaws.{codes-sound}
 use Rattle.findings.specs.Findings.{Finding, Every}
 use Rattle.findings.specs.Schemes.{tile_scheme}
-use Rattle.findings.specs.Answers.{reported, tile_at, lookup_of}
+use Rattle.findings.specs.Answers.{reported, tile_at, lookup_of, Located, is_refused}
 use Rattle.findings.specs.Words.{octets_of, words_of, finding_octets, room, written_of, buffer_of, report_words, located_words}
 use Rattle.findings.specs.Demands.{Due, Partner, Fits, AllFit}
 use Rattle.findings.specs.SchemeLaws.{outcome-length, outcome_fits}
 use Rattle.findings.specs.ReportedLaws.{tile-reported}
 use Rattle.findings.specs.PartnerLaws.{due_partner}
 use Rattle.findings.specs.RefusedLaws.{written-fit, place-fits}
-use Rattle.findings.specs.LocatedLaws.{is_refused, found-there, never-refused, lookup_cases}
-use Rattle.findings.specs.declared.Located.{Located}
-use Rattle.findings.specs.declared.Located.TheVariants as look
+use Rattle.findings.specs.LocatedLaws.{found-there, never-refused, lookup_cases}
 
 -- ---- code, row and partner of a finding
 module _ (s : List ℕ) where
@@ -54,22 +52,22 @@ module _ (s : List ℕ) where
       (q.0, (q.1.0, (q.1.1.0, (total-fits, (omega (arith, total-fits), tt)))))
 
   -- those of a refusal
-  pub turned-fits : (n t r : ℕ) → outcome s ≡ reading.Refused n t r → AllFit (n ∷ t ∷ r ∷ [])
-  turned-fits n t r o = rw o at (place-fits s)
+  pub turned-fits : (e : Refusal) → outcome s ≡ Err e → AllFit (number e.why ∷ e.table ∷ e.row ∷ [])
+  turned-fits e o = rw o at (place-fits s)
 
   pub lookup_fits : (k : ℕ) (z c r : ℤ) → AllFit (located_words (lookup_of s k z c r))
   unfolding rows_in
   lookup_fits k z c r =
       lookup_cases s k z c r (λ a. AllFit (located_words a))
-      (λ n t q o. (omega arith, turned-fits n t q o))
+      (λ e o. (omega arith, turned-fits e o))
       (λ a b. written-fit (none ∷ 10 ∷ 0 ∷ 0 ∷ []) refl)
       (λ a b. by a (tile_at (pack_of s).tiles ((pack_of s).contents.row k).name z c r) refl)
     where
       by : is_accepted (outcome s) ≡ true → (v : Located) → tile_at (pack_of s).tiles ((pack_of s).contents.row k).name z c r ≡ v → AllFit (located_words v)
-      by a (look.At i) e =
+      by a (Ok (Some i)) e =
           (omega (arith, (found-there (pack_of s).tiles ((pack_of s).contents.row k).name z c r i e).0, rows-numbered s a 5), written-fit (0 ∷ 0 ∷ 0 ∷ []) refl)
-      by a look.Nowhere e = written-fit (none ∷ 0 ∷ 0 ∷ 0 ∷ []) refl
-      by a (look.Refused n t q) e = absurd (false≢true (sym (never-refused (pack_of s).tiles ((pack_of s).contents.row k).name z c r) ∙ ap is_refused e))
+      by a (Ok None) e = written-fit (none ∷ 0 ∷ 0 ∷ 0 ∷ []) refl
+      by a (Err w) e = absurd (false≢true (sym (never-refused (pack_of s).tiles ((pack_of s).contents.row k).name z c r) ∙ ap is_refused e))
 
 -- ---- reading: a word of some that fit
 pub words-read : (ws rest : List ℕ) (k : ℕ) → AllFit ws → k < length ws → le32 (octets_of ws ++ rest) (4 * k) ≡ get_or ws k 0

@@ -1,15 +1,11 @@
 -- The words of the answers, as octets in the caller's buffers.
-use Rattle.std.specs.Prelude.{ℕ, ◌*◌, ◌/◌, min, List, [], ◌∷◌, ◌++◌, Bool, cond, ltb, length, take, drop}
+use Rattle.std.specs.Prelude.{ℕ, ◌*◌, ◌/◌, min, List, [], ◌∷◌, ◌++◌, Bool, cond, ltb, length, take, drop, None, Some, Ok, Err}
 use Rattle.octets.specs.Octets.{word}
-use Rattle.listing.specs.Refusals.{outcome, number_of, table_of, row_of}
-use Rattle.listing.specs.declared.Outcome.{Outcome}
+use Rattle.listing.specs.Refusals.{outcome, number_of, table_of, row_of, Outcome, number}
 use Rattle.rules.specs.Judgments.{none}
 use Rattle.findings.specs.Findings.{Finding}
-use Rattle.findings.specs.Answers.{reported}
-use Rattle.findings.specs.declared.Ruling.{Ruling}
+use Rattle.findings.specs.Answers.{reported, Verdict, Located}
 use Rattle.findings.specs.declared.Ruling.TheVariants as ruling
-use Rattle.findings.specs.declared.Located.{Located}
-use Rattle.findings.specs.declared.Located.TheVariants as look
 
 -- words, one after the other, as octets
 abbrev pub octets_of : List ℕ → List ℕ
@@ -47,17 +43,17 @@ unfoldable pub report_words : List ℕ → List ℕ → List ℕ
 report_words s b = report_words_by (outcome s) (reported s) b
 
 -- verdict: 0 pass, 1 fail, 2 not testable, 3 refused; its row, 4294967295 "unless it is a fail with a row"; number and place
-abbrev pub ruling_words : Ruling → List ℕ
-ruling_words ruling.Pass = 0 ∷ none ∷ 0 ∷ 0 ∷ 0 ∷ []
-ruling_words (ruling.Fail i) = 1 ∷ i ∷ 0 ∷ 0 ∷ 0 ∷ []
-ruling_words ruling.NotTestable = 2 ∷ none ∷ 0 ∷ 0 ∷ 0 ∷ []
-ruling_words (ruling.Refused n t r) = 3 ∷ none ∷ n ∷ t ∷ r ∷ []
+abbrev pub ruling_words : Verdict → List ℕ
+ruling_words (Ok ruling.Pass) = 0 ∷ none ∷ 0 ∷ 0 ∷ 0 ∷ []
+ruling_words (Ok (ruling.Fail i)) = 1 ∷ i ∷ 0 ∷ 0 ∷ 0 ∷ []
+ruling_words (Ok ruling.NotTestable) = 2 ∷ none ∷ 0 ∷ 0 ∷ 0 ∷ []
+ruling_words (Err e) = 3 ∷ none ∷ number e.why ∷ e.table ∷ e.row ∷ []
 
 -- lookup: the tile row or 4294967295; number and place
 abbrev pub located_words : Located → List ℕ
-located_words (look.At i) = i ∷ 0 ∷ 0 ∷ 0 ∷ []
-located_words look.Nowhere = none ∷ 0 ∷ 0 ∷ 0 ∷ []
-located_words (look.Refused n t r) = none ∷ n ∷ t ∷ r ∷ []
+located_words (Ok (Some i)) = i ∷ 0 ∷ 0 ∷ 0 ∷ []
+located_words (Ok None) = none ∷ 0 ∷ 0 ∷ 0 ∷ []
+located_words (Err e) = none ∷ number e.why ∷ e.table ∷ e.row ∷ []
 
 -- ---- an answer buffer: "where it is too short, nothing is written and 0 is returned before any refusal, otherwise 1"
 abbrev pub is_short : ℕ → List ℕ → Bool

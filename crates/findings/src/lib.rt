@@ -1,19 +1,18 @@
 // What the calls answer. The definitions are in specs/.
 #![tactic(auto)]
 
-// What a verdict answers.
-#[derive(Clone, Copy)]
+use listing::Refusal;
+
+// What a verdict rules, where nothing is refused.
+#[derive(Clone, Copy, PartialEq, Eq)]
 pub enum Ruling {
     Pass,
     Fail(usize),
     NotTestable,
-    Refused { number: u32, table: u32, row: u32 },
 }
 
-// What a lookup answers.
-#[derive(Clone, Copy)]
-pub enum Located {
-    At(usize),
-    Nowhere,
-    Refused { number: u32, table: u32, row: u32 },
-}
+// What a verdict answers.
+pub type Verdict = Result<Ruling, Refusal>;
+
+// What a lookup answers: the tile's row, or none.
+pub type Located = Result<Option<usize>, Refusal>;

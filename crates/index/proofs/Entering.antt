@@ -4,19 +4,16 @@ use mathlib.Core.Path.{◌≡◌, sym, ap}
 use mathlib.Core.List.{List}
 use mathlib.Core.Bool.{Bool, true, false}
 use native.Mathlib.Omega.{arith}
-use native.Mathlib.Nat.{mod-lt, mul_comm, mul-le-mul_left, le_of_lt, lt_of_le_of_lt, div-lt_iff_lt-mul, mul-lt-mul_of_pos_right}
+use native.Mathlib.Nat.{mod-lt, mul_comm, div-lt_iff_lt-mul, mul-lt-mul_of_pos_right}
 use borrow.Author.Tests.{ltb-true, ltb-false}
 use lib.Dec.{ltb}
+use lib.ListN.{length}
 use Rattle.octets.specs.Search.{first}
 use Rattle.octets.proofs.SearchLaws.{first-lowest}
 use Rattle.index.specs.Chains.{print_range}
 use Rattle.index.specs.ChainLaws.{by_test, entry_new, entry_old, entry-never, asks-by}
-use Rattle.index.specs.Work.{mix_range, place_of, print_of, pushed, settled, Leads, Keyed, Entered}
+use Rattle.index.specs.Work.{mix_range, place_of, print_of, pushed, settled, LeadsBy, Keyed, Entered}
 use Rattle.index.proofs.Words.{indexed_old, indexed_new}
-
--- two u32, and what their product is
-pub mul-lt : (m y : ℕ) → y < mix_range → m < mix_range → y * m < 18446744073709551616
-mul-lt m y l s = lt_of_le_of_lt (mul-le-mul_left y (le_of_lt s)) (omega arith)
 
 -- a mix is a u32, so its place is among the heads
 pub place-below : (m y : ℕ) → y < mix_range → 0 < m → place_of m y < m
@@ -40,23 +37,26 @@ module _ {K : Type 0} {key : ℕ → K} {passes : K → ℕ → Bool} {mixOf : K
   entered-none z e f = record { found = rw e at f; indexed = keyed_none z }
 
   module _ {n : ℕ} (x : Keyed key passes mixOf w m rows n) where
-    -- where a row that answers to a key has it, the head of the key's hash leads to those that do
-    pub keyed_leads : {a : K} {y : ℕ} → ((k : ℕ) → passes a k ≡ true → a ≡ key k) → (m ≡ 0 → ⊥) → y ≡ mixOf a → y < mix_range → n ≤ rows → Leads (passes a) w m (place_of m y) (print_of y) n
-    keyed_leads {a} {y} sound s e l i = record {
-      fits = λ x k. passes (key x) k;
-      hash = λ k. place_of m (mixOf (key k));
-      print = λ k. print_of (mixOf (key k));
-      rows = rows;
-      asks = rw e (asks-by key passes (λ b. place_of m (mixOf b)) a sound);
-      printed = λ k t. rw e (ap (λ (b : K). print_of (mixOf b)) (sym (sound k t)));
-      below = place-below m y l (x.there s).some;
-      inside = i;
-      indexed = x.there s;
-    }
+    -- where a row that answers to a key has it, the mix of the key leads to those that do
+    pub leads_by : {a : K} {y : ℕ} → ((k : ℕ) → passes a k ≡ true → a ≡ key k) → (m ≡ 0 → ⊥) → (y ≡ mixOf a) × (y < mix_range) → n ≤ rows → LeadsBy (passes a) w m y n
+    leads_by {a} {y} sound s mixed i = (
+      record {
+        fits = λ x k. passes (key x) k;
+        hash = λ k. place_of m (mixOf (key k));
+        print = λ k. print_of (mixOf (key k));
+        rows = rows;
+        asks = rw mixed.0 (asks-by key passes (λ b. place_of m (mixOf b)) a sound);
+        printed = λ k t. rw mixed.0 (ap (λ (b : K). print_of (mixOf b)) (sym (sound k t)));
+        below = place-below m y mixed.1 (x.there s).some;
+        inside = i;
+        indexed = x.there s;
+      },
+      ((x.there s).few, mixed.1),
+    )
 
-    -- how many heads there are, for the place of a mix
-    pub keyed_heads : (m ≡ 0 → ⊥) → (0 < m) × (m < mix_range)
-    keyed_heads s = ((x.there s).some, (x.there s).few)
+    -- row n may be put on its chain
+    pub may_settle : {y : ℕ} → (m ≡ 0 → ⊥) → y < mix_range → n < rows → (0 < m) × (m < mix_range) × (y < mix_range) × (4 * (m + n) + 4 ≤ length w)
+    may_settle s b l = ((x.there s).some, (x.there s).few, b, omega (arith, (x.there s).room))
 
     pub keyed_all : {k : ℕ} → n ≡ k → Keyed key passes mixOf w m rows k
     keyed_all e = rw e at x
@@ -82,9 +82,9 @@ module _ {K : Type 0} {key : ℕ → K} {passes : K → ℕ → Bool} {mixOf : K
         (λ o. simp o (keyed_new l t (omega (arith, ltb-false r n o, (first-lowest (passes (key n)) n).most)) q b))
 
     -- row n answers to its key, and is settled
-    pub entered : {w' : List ℕ} {y r : ℕ} {a : K} → n < rows → passes a n ≡ true → a ≡ key n → r ≡ first (passes a) n → y ≡ mixOf a → y < mix_range
+    pub entered : {w' : List ℕ} {y r : ℕ} {a : K} → n < rows → passes a n ≡ true → a ≡ key n → r ≡ first (passes a) n → (y ≡ mixOf a) × (y < mix_range)
         → w' ≡ settled w m (place_of m y) y n r → Entered key passes mixOf w' m rows n r
-    entered l t e f q b o = record { found = rw e at f; indexed = rw o (keyed_settled l (rw e at t) (rw e at f) (rw e at q) b) }
+    entered l t e f mixed o = record { found = rw e at f; indexed = rw o (keyed_settled l (rw e at t) (rw e at f) (rw e at mixed.0) mixed.1) }
 
     -- it does not, and is left out
     pub entered-never : {r : ℕ} {a : K} → passes a n ≡ false → a ≡ key n → r ≡ first (passes a) n → Entered key passes mixOf w m rows n r

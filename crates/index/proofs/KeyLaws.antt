@@ -1,6 +1,6 @@
 -- Keys of every kind: a row that answers to a key has it (sound), and a row of a sure kind answers to its own (own).
 use Prim.Native.Nat.{ℕ}
-use mathlib.Core.Path.{◌≡◌, refl, sym, ap, ◌∙◌}
+use mathlib.Core.Path.{◌≡◌, refl, sym, ◌∙◌}
 use mathlib.Core.List.{List}
 use mathlib.Core.Bool.{Bool, true, not, ◌&&◌, and-eq-true_iff, false≢true}
 use lib.IntN.{ℤ, pos, negsuc}
@@ -10,10 +10,8 @@ use Rattle.octets.specs.Numbers.{signed, eq_z}
 use Rattle.octets.specs.NumberLaws.{eq_z_true}
 use Rattle.octets.specs.Texts.{same, spell}
 use Rattle.octets.proofs.TextLaws.{same_equal, same_refl}
-use Rattle.pack.specs.declared.ContentsRow.{ContentsRow}
-use Rattle.pack.specs.declared.SetRow.{SetRow}
 use Rattle.pack.specs.declared.MatrixRow.{MatrixRow}
-use Rattle.pack.specs.Tables.{contents_row, set_row, matrix_row, content_of, set_of, matrix_of, contents_of, sets_of, matrices_of}
+use Rattle.pack.specs.Tables.{matrix_of, contents_of, sets_of, matrices_of}
 use Rattle.spelling.specs.Words.{tiles}
 use Rattle.rules.specs.Contents.{of_type, gives_tiles, content_named, set_named}
 use Rattle.rules.specs.Matrices.{matrix_named, at_level, finer, breaks531}
@@ -68,25 +66,6 @@ module _ (t names : List ℕ) where
   pub key_own : (a : Key) (s : Kind) (k : ℕ) (b : Bool) → meaning names a ≡ key_of (kind_of a) t names k → s ≡ kind_of a → b ≡ sure s → b ≡ true
       → true ≡ answers (kind_of a) t names (meaning names a) k
   key_own a s k b e q f o = sym (rw e (own (kind_of a) (rw q at (sym f ∙ o)) k))
-
-  -- the code reads the key of row k
-  module _ (k : ℕ) where
-    pub read-level : (q : MatrixRow) → q ≡ matrix_row t k → meaning names (key.Level q.name q.zoom) ≡ key_of kind.Level t names k
-    unfolding matrix_of
-    read-level q e = ap (λ (r : MatrixRow). meaning names (key.Level r.name r.zoom)) e
-
-    pub read_matrix_name : (q : MatrixRow) → q ≡ matrix_row t k → meaning names (key.MatrixName q.name) ≡ key_of kind.MatrixName t names k
-    unfolding matrix_of
-    read_matrix_name q e = ap (λ (r : MatrixRow). meaning names (key.MatrixName r.name)) e
-
-    -- that of a tiles name is the same
-    pub read_content_name : (q : ContentsRow) → q ≡ contents_row t k → meaning names (key.ContentName q.name) ≡ key_of kind.ContentName t names k
-    unfolding content_of
-    read_content_name q e = ap (λ (r : ContentsRow). meaning names (key.ContentName r.name)) e
-
-    pub read_set_name : (q : SetRow) → q ≡ set_row t k → meaning names (key.SetName q.name) ≡ key_of kind.SetName t names k
-    unfolding set_of
-    read_set_name q e = ap (λ (r : SetRow). meaning names (key.SetName r.name)) e
 
   -- a row that breaks 531 with a row has its name
   pub named_531 : (m : MatrixRow) (k : ℕ) → breaks531 (matrix_of names m) ((matrices_of t names).row k) ≡ true → meaning names (key.MatrixName m.name) ≡ key_of kind.MatrixName t names k

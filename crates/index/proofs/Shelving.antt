@@ -13,7 +13,7 @@ use lib.ListN.{length}
 use Rattle.octets.specs.Search.{first}
 use Rattle.index.specs.Chains.{row_range, is_entry, newest, marked}
 use Rattle.index.specs.ChainLaws.{by_test, lowest-is, entry_new, newest-le, newest-newest, entry-below, chain-hash, marked-zero, marked-none, marked_row, marked-print}
-use Rattle.index.specs.Work.{mix_range, word_at, place_of, print_of, Indexed, Keyed}
+use Rattle.index.specs.Work.{mix_range, word_at, place_of, print_of, Shelf, HoldsBy, Keyed}
 use Rattle.index.proofs.Entering.{place-below}
 
 -- no row below k is row k
@@ -23,15 +23,6 @@ first_itself k = lowest-is (eqb k) k k (record { most = omega arith; below = λ 
 -- so every row is entered
 entry-all : (k : ℕ) → is_entry eqb k ≡ true
 entry-all k = entry_new eqb k (eq-eqb k k refl) (first_itself k)
-
--- w has every row below n on the chain of its hash; those that pass have hash h and print p
-pub record Shelf (test : ℕ → Bool) (w : List ℕ) (m h p n : ℕ) : Type 0 where
-  pub hash : ℕ → ℕ
-  pub print : ℕ → ℕ
-  pub blind : (k : ℕ) → test k ≡ true → hash k ≡ h
-  pub printed : (k : ℕ) → test k ≡ true → print k ≡ p
-  pub below : h < m
-  pub indexed : Indexed eqb hash print w m n n
 
 -- a walk has come to the word x, which is row j - 1, or none where j is 0; best is the lowest row from j on that passes, or n
 pub record Shelving (test : ℕ → Bool) (w : List ℕ) (m h p n x best : ℕ) : Type 0 where
@@ -131,14 +122,17 @@ module _ {test : ℕ → Bool} {w : List ℕ} {m h p n : ℕ} where
 
 pub ruleset shelvings = (shelving_start, shelving_on, shelving_less, shelving_end, rules)
 
--- the shelf that keys make: the mix of row k is mixOf k, and those that pass have the mix y
-pub shelf-of : {mixOf : ℕ → ℕ} {w : List ℕ} {m n y : ℕ} {test : ℕ → Bool} → Keyed (λ k. k) eqb mixOf w m n n → (m ≡ 0 → ⊥) → y < mix_range
-    → ((k : ℕ) → test k ≡ true → y ≡ mixOf k) → Shelf test w m (place_of m y) (print_of y) n
-shelf-of {mixOf} {m = m} {y = y} x s l f = record {
-  hash = λ k. place_of m (mixOf k);
-  print = λ k. print_of (mixOf k);
-  blind = λ k t. ap (place_of m) (sym (f k t));
-  printed = λ k t. ap print_of (sym (f k t));
-  below = place-below m y l (x.there s).some;
-  indexed = x.there s;
-}
+-- where only rows with a key pass, the chain of the key's mix holds them
+pub holds_by : {K : Type 0} (mixOf : K → ℕ) {key : ℕ → K} {w : List ℕ} {m n y : ℕ} {test : ℕ → Bool} {a : K} → Keyed (λ k. k) eqb (λ k. mixOf (key k)) w m n n
+    → ((k : ℕ) → test k ≡ true → a ≡ key k) → (m ≡ 0 → ⊥) → (y ≡ mixOf a) × (y < mix_range) → HoldsBy test w m y n
+holds_by mixOf {key = key} {m = m} {y = y} x only s mixed = (
+  record {
+    hash = λ k. place_of m (mixOf (key k));
+    print = λ k. print_of (mixOf (key k));
+    blind = λ k t. ap (place_of m) (sym (mixed.0 ∙ ap mixOf (only k t)));
+    printed = λ k t. ap print_of (sym (mixed.0 ∙ ap mixOf (only k t)));
+    below = place-below m y mixed.1 (x.there s).some;
+    indexed = x.there s;
+  },
+  ((x.there s).few, mixed.1),
+)

@@ -80,11 +80,4 @@ pub print-differs : (a : Bool) (x p : ℕ) → (a ≡ true → x ≡ p) → (x �
 print-differs true x p f o = absurd (o (f refl))
 print-differs false x p f o = refl
 
--- there are heads, and the place is one of them
-pub leads-some : {test : ℕ → Bool} {w : List ℕ} {m h p n : ℕ} → Leads test w m h p n → 0 < m
-leads-some l = l.indexed.some
-
-pub leads-room : {test : ℕ → Bool} {w : List ℕ} {m h p n : ℕ} → Leads test w m h p n → 4 * m ≤ length w
-leads-room l = omega (arith, l.indexed.room)
-
 pub ruleset walks = (walking_start, walking_found, walking_on, walking_less, walking_end, rules)

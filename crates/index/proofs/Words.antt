@@ -157,10 +157,6 @@ heads_fit words rows m e s =
     (λ a. absurd (s (simp a at e)))
 
 module _ (w : List ℕ) (m rows : ℕ) where
-  -- no head, no index
-  pub ready_none : m ≡ 0 → Ready w m rows
-  ready_none e = record { there = λ fits hash print s. absurd (s e) }
-
   -- every head is 0
   pub ready_clear : (n : ℕ) → length w ≡ n → m ≡ heads_for (n / 4) rows → ((h : ℕ) → h < m → word_at w h ≡ 0) → Ready w m rows
   ready_clear n l e z = record {

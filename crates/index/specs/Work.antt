@@ -1,5 +1,5 @@
 -- An index in lent octets: m heads and then a link for each row, all of them u32 words. A word is a row and one with the print of the row's key, or 0 for none.
-use Rattle.std.specs.Prelude.{ℕ, ◌+◌, ◌-◌, ◌*◌, ◌/◌, ◌%◌, ◌<◌, ◌≤◌, ◌≡◌, List, Bool, true, cond, ◌&&◌, ltb, length}
+use Rattle.std.specs.Prelude.{ℕ, ◌+◌, ◌-◌, ◌*◌, ◌/◌, ◌%◌, ◌<◌, ◌≤◌, ◌≡◌, List, Bool, true, cond, ◌&&◌, eqb, ltb, length}
 use Rattle.std.proofs.lemmas.List.Edits.{sets}
 use Rattle.octets.specs.Octets.{le32, word}
 use Rattle.octets.specs.Search.{first}
@@ -69,6 +69,19 @@ pub record Leads (test : ℕ → Bool) (w : List ℕ) (m h p n : ℕ) : Type 0 w
 -- the head of a mix leads to the rows that pass
 abbrev pub LeadsBy : (ℕ → Bool) → List ℕ → ℕ → ℕ → ℕ → Type 0
 LeadsBy test w m y n = Leads test w m (place_of m y) (print_of y) n × ((m < mix_range) × (y < mix_range))
+
+-- every row below n is on the chain of its hash; those that pass have hash h and print p
+pub record Shelf (test : ℕ → Bool) (w : List ℕ) (m h p n : ℕ) : Type 0 where
+  pub hash : ℕ → ℕ
+  pub print : ℕ → ℕ
+  pub blind : (k : ℕ) → test k ≡ true → hash k ≡ h
+  pub printed : (k : ℕ) → test k ≡ true → print k ≡ p
+  pub below : h < m
+  pub indexed : Indexed eqb hash print w m n n
+
+-- the chain of a mix holds every row that passes
+abbrev pub HoldsBy : (ℕ → Bool) → List ℕ → ℕ → ℕ → ℕ → Type 0
+HoldsBy test w m y n = Shelf test w m (place_of m y) (print_of y) n × ((m < mix_range) × (y < mix_range))
 
 -- Rows that have keys, `passes a k` for row k answering to the key a. With no head there is no index; else w indexes the first n rows
 pub record Keyed {K : Type 0} (key : ℕ → K) (passes : K → ℕ → Bool) (mixOf : K → ℕ) (w : List ℕ) (m rows n : ℕ) : Type 0 where

@@ -3,6 +3,7 @@
 
 use octets::Name;
 
+mod chains;
 mod contents;
 mod entries;
 mod hashes;
@@ -13,16 +14,14 @@ mod sizes;
 mod tiles;
 mod work;
 
-pub use contents::find_content;
-pub use entries::{find, index_all};
-pub use keys::{count, first_answer, kind_of};
-pub use levels::find_level;
-pub use shelf::{lowest, shelve};
-pub use sizes::lowest_531;
-pub use tiles::{enter_address, find_name, index_names};
+pub use chains::Index;
+pub use entries::{first_answer, index_all};
+pub use keys::{count, kind_of};
+pub use shelf::shelve;
+pub use tiles::{enter_address, index_names};
 pub use work::start;
 
-// What is indexed beside tiles, and by which key.
+// What is indexed beside tiles, and by which key. An enum, since `row_count`, `key_of` and `answers` of specs/Keys say of its values what they mean.
 #[derive(Clone, Copy)]
 pub enum Kind {
     // matrices
@@ -35,7 +34,7 @@ pub enum Kind {
     SetName,
 }
 
-// A key to look for.
+// A key to look for. An enum, since `kind_of`, `meaning` and `KeyConfines` of specs/Keys say of its values what they mean.
 #[derive(Clone, Copy)]
 pub enum Key {
     Level { name: Name, zoom: u64 },

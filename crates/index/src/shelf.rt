@@ -1,10 +1,10 @@
 // Every matrix row on a chain with those of its key: a rule that wants the lowest of them that fails meets them all, and no other.
-ghost use Rattle.std.specs.Prelude.{◌≡◌, ◌/◌, true, cond};
+ghost use Rattle.std.specs.Prelude.{◌≡◌};
 ghost use Rattle.octets.specs.Search.{first};
 ghost use Rattle.index.specs.declared.Kind.TheVariants.{MatrixName};
-ghost use Rattle.index.specs.Chains.{row_range};
 ghost use Rattle.index.specs.Keys.{row_count, kind_of, passing, Shelves, KeyConfines};
 
+use crate::chains::{Asked, Index};
 use crate::{Key, Kind, hashes, keys, work};
 use listing::MatrixTable;
 use seek::MatrixTest;
@@ -18,63 +18,45 @@ pub fn shelve(matrices: &[u8], names: &[u8], work: &mut [u8], kind: Kind) -> usi
     if heads == 0 {
         return heads;
     }
-    let mut i = 0;
-    while i < n {
-        let next = i + 1;
+    for i in 0..n {
         let mix = hashes::mix(names, keys::key_at(matrices, names, kind, i));
         work::settle(work, heads, mix, i, i);
-        i = next;
     }
     heads
 }
 
-// Row k where it passes, else the best so far. The word x is stored of it.
-fn better(
-    matrices: &[u8],
-    names: &[u8],
+// Matrix rows, of which a test is asked.
+#[derive(Clone, Copy)]
+struct Passing<'a> {
+    matrices: &'a [u8],
+    names: &'a [u8],
     test: MatrixTest,
-    print: usize,
-    x: usize,
-    k: usize,
-    best: usize,
-) -> usize
-    requires { passing matrices.now names.now test k ≡ true → x / row_range ≡ print }
-    ensures { result ≡ cond (passing matrices.now names.now test k) k best }
-{
-    if x / work::ROW_RANGE != print {
-        return best;
-    }
-    if seek::matrix_passes(names, test, pack::matrix_at(matrices, k)) {
-        return k;
-    }
-    best
 }
 
-// The lowest row that passes, or the count: only rows with the key do.
-pub fn lowest(
-    matrices: &[u8],
-    names: &[u8],
-    work: &[u8],
-    heads: usize,
-    key: Key,
-    test: MatrixTest,
-) -> usize
-    requires shelves { Shelves (kind_of key) matrices.now names.now work.now heads (row_count MatrixName matrices.now) }
-    requires key_confines { KeyConfines matrices.now names.now key test }
-    ensures { result ≡ first (passing matrices.now names.now test) (row_count MatrixName matrices.now) }
-{
-    let n = matrices.len() / (MatrixTable::ROW as usize);
-    if heads == 0 {
-        return seek::first_matrix(matrices, names, test, n);
+impl Asked for Passing<'_> {
+    ghost passes = { λ s. passing s.matrices.now s.names.now s.test };
+
+    fn does_pass(&self, k: usize) -> bool {
+        seek::matrix_passes(self.names, self.test, pack::matrix_at(self.matrices, k))
     }
-    let mix = hashes::mix(names, key);
-    let print = work::print(mix);
-    let mut best = n;
-    let mut x = work::word_at(work, work::place(heads, mix));
-    while x != 0 {
-        let k = x % work::ROW_RANGE - 1;
-        best = better(matrices, names, test, print, x, k, best);
-        x = work::word_at(work, heads + k);
+}
+
+impl Index<'_> {
+    // The lowest row that passes, or the count: only rows with the key do.
+    pub fn lowest(self, matrices: &[u8], names: &[u8], key: Key, test: MatrixTest) -> usize
+        requires shelves { Shelves (kind_of key) matrices.now names.now self.work.now self.heads (row_count MatrixName matrices.now) }
+        requires key_confines { KeyConfines matrices.now names.now key test }
+        ensures { result ≡ first (passing matrices.now names.now test) (row_count MatrixName matrices.now) }
+    {
+        let n = matrices.len() / (MatrixTable::ROW as usize);
+        if self.heads == 0 {
+            return seek::first_matrix(matrices, names, test, n);
+        }
+        let rows = Passing {
+            matrices,
+            names,
+            test,
+        };
+        self.walk_all(&rows, hashes::mix(names, key), n)
     }
-    best
 }

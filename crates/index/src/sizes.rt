@@ -1,70 +1,44 @@
-// The lowest row that breaks 531 with a row: what `lowest` does for it, written for it alone, since it meets every two matrices of a name.
-ghost use Rattle.std.specs.Prelude.{◌≡◌, ◌/◌, true, cond};
+// The lowest row that breaks 531 with a row: what `lowest` does for a test that is known, since 531 meets every two matrices of a name.
+ghost use Rattle.std.specs.Prelude.{◌≡◌};
 ghost use Rattle.octets.specs.Search.{first};
 ghost use Rattle.index.specs.declared.Kind.TheVariants.{MatrixName};
-ghost use Rattle.index.specs.Chains.{row_range};
 ghost use Rattle.index.specs.Keys.{row_count, breaking531, Shelves};
 
-use crate::{hashes, work};
+use crate::chains::{Asked, Index};
+use crate::{chains, hashes};
 use listing::MatrixTable;
 use pack::MatrixRow;
 
-fn better_531(
-    matrices: &[u8],
-    names: &[u8],
+// Matrix rows, of which it is asked whether they break 531 with a row.
+#[derive(Clone, Copy)]
+struct Breaking531<'a> {
+    matrices: &'a [u8],
+    names: &'a [u8],
     q: MatrixRow,
-    print: usize,
-    x: usize,
-    k: usize,
-    best: usize,
-) -> usize
-    requires { breaking531 matrices.now names.now q k ≡ true → x / row_range ≡ print }
-    ensures { result ≡ cond (breaking531 matrices.now names.now q k) k best }
-{
-    if x / work::ROW_RANGE != print {
-        return best;
-    }
-    if seek::breaks_531(names, q, pack::matrix_at(matrices, k)) {
-        return k;
-    }
-    best
 }
 
-// The lowest of the first n rows that does, met one after the other, or n.
-fn first_531(matrices: &[u8], names: &[u8], q: MatrixRow, n: usize) -> usize
-    ensures { result ≡ first (breaking531 matrices.now names.now q) n }
-{
-    let mut i = 0;
-    while i < n {
-        let next = i + 1;
-        if seek::breaks_531(names, q, pack::matrix_at(matrices, i)) {
-            return i;
+impl Asked for Breaking531<'_> {
+    ghost passes = { λ s. breaking531 s.matrices.now s.names.now s.q };
+
+    // Both searches have it in their loops, as a call for every two matrices of a name takes a report twice the time.
+    #[inline(always)]
+    fn does_pass(&self, k: usize) -> bool {
+        seek::breaks_531(self.names, self.q, pack::matrix_at(self.matrices, k))
+    }
+}
+
+impl Index<'_> {
+    // Where the middle row has the name, most rows may: then they are met one after the other, which is quicker than along a chain.
+    pub fn lowest_531(self, matrices: &[u8], names: &[u8], q: MatrixRow) -> usize
+        requires { Shelves MatrixName matrices.now names.now self.work.now self.heads (row_count MatrixName matrices.now) }
+        ensures { result ≡ first (breaking531 matrices.now names.now q) (row_count MatrixName matrices.now) }
+    {
+        let n = matrices.len() / (MatrixTable::ROW as usize);
+        let rows = Breaking531 { matrices, names, q };
+        if self.heads == 0 || pack::matrix_at(matrices, n / 2).name.start == q.name.start {
+            return chains::first(&rows, n);
         }
-        i = next;
+        let mix = hashes::mix_of(names, q.name, 0, 0, 0);
+        self.walk_all(&rows, mix, n)
     }
-    n
-}
-
-// Where the middle row has the name, most rows may: then they are met one after the other, which is quicker than along a chain.
-pub fn lowest_531(matrices: &[u8], names: &[u8], work: &[u8], heads: usize, q: MatrixRow) -> usize
-    requires { Shelves MatrixName matrices.now names.now work.now heads (row_count MatrixName matrices.now) }
-    ensures { result ≡ first (breaking531 matrices.now names.now q) (row_count MatrixName matrices.now) }
-{
-    let n = matrices.len() / (MatrixTable::ROW as usize);
-    if heads == 0 {
-        return first_531(matrices, names, q, n);
-    }
-    if pack::matrix_at(matrices, n / 2).name.start == q.name.start {
-        return first_531(matrices, names, q, n);
-    }
-    let mix = hashes::mix_of(names, q.name, 0, 0, 0);
-    let print = work::print(mix);
-    let mut best = n;
-    let mut x = work::word_at(work, work::place(heads, mix));
-    while x != 0 {
-        let k = x % work::ROW_RANGE - 1;
-        best = better_531(matrices, names, q, print, x, k, best);
-        x = work::word_at(work, heads + k);
-    }
-    best
 }

@@ -1,4 +1,4 @@
-// The words of an index in lent octets.
+// The words of an index in lent octets. No map: the project has no heap, so rows and links are words in fixed memory that a caller lends.
 ghost use Rattle.std.specs.Prelude.{◌≡◌, ℕ, ◌+◌, ◌*◌, ◌/◌, ◌<◌, ◌≤◌, length};
 ghost use Rattle.index.specs.Chains.{print_range};
 ghost use Rattle.index.specs.Work.{mix_range, word_at, put_word, place_of, print_of, pushed, settled, heads_for, Ready};
@@ -14,6 +14,7 @@ const MIX_RANGE: usize = 4294967296;
 // How many heads an index has more than rows, where there is room: the chains of a small table are short.
 const SPARE_HEADS: usize = 16384;
 
+#[tactic(auto, unfolding(crate::specs::Work::word_at))]
 pub fn word_at(w: &[u8], j: usize) -> usize
     requires { 4 * j + 4 ≤ length w.now }
     ensures { result ≡ word_at w.now j }
@@ -21,6 +22,7 @@ pub fn word_at(w: &[u8], j: usize) -> usize
     octets::word(w, 4 * j) as usize
 }
 
+#[tactic(auto, unfolding(crate::specs::Work::put_word))]
 fn put_word(w: &mut [u8], j: usize, x: usize)
     requires { 4 * j + 4 ≤ length w.old }
     ensures { w.new ≡ put_word w.old j x }
@@ -29,6 +31,7 @@ fn put_word(w: &mut [u8], j: usize, x: usize)
 }
 
 // The place of a mix among so many heads.
+#[tactic(auto, unfolding(crate::specs::Work::place_of))]
 pub fn place(heads: usize, mix: usize) -> usize
     requires { (0 < heads) × (heads < mix_range) × (mix < mix_range) }
     ensures { (result ≡ place_of heads mix) × (result < heads) }
@@ -37,6 +40,7 @@ pub fn place(heads: usize, mix: usize) -> usize
 }
 
 // The print of a mix.
+#[tactic(auto, unfolding(crate::specs::Work::print_of))]
 pub fn print(mix: usize) -> usize
     ensures { (result ≡ print_of mix) × (result < print_range) }
 {
@@ -44,6 +48,7 @@ pub fn print(mix: usize) -> usize
 }
 
 // Puts row i, of which the mix is given, before the rows on the chain of hash h.
+#[tactic(auto, unfolding(crate::specs::Work::pushed))]
 fn push(w: &mut [u8], heads: usize, h: usize, mix: usize, i: usize)
     requires { (h < heads) × (4 * (heads + i) + 4 ≤ length w.old) }
     ensures { w.new ≡ pushed w.old heads h mix i }
@@ -54,6 +59,7 @@ fn push(w: &mut [u8], heads: usize, h: usize, mix: usize, i: usize)
 }
 
 // Puts row i, of which the mix is given, on its chain, unless the walk for its key has found a row r before it.
+#[tactic(auto, unfolding(crate::specs::Work::settled))]
 pub fn settle(w: &mut [u8], heads: usize, mix: usize, i: usize, r: usize)
     requires { (0 < heads) × (heads < mix_range) × (mix < mix_range) × (4 * (heads + i) + 4 ≤ length w.old) }
     ensures { w.new ≡ settled w.old heads (place_of heads mix) mix i r }
@@ -69,28 +75,18 @@ fn clear(w: &mut [u8], heads: usize)
     requires { 4 * heads ≤ length w.old }
     ensures { (h : ℕ) → h < heads → word_at w.new h ≡ 0 }
 {
-    let end = 4 * heads;
-    let mut k = 0;
-    while k < end {
-        w[k] = 0;
-        k += 1;
-    }
+    w[..4 * heads].fill(0);
 }
 
+#[tactic(auto, using(std::proofs::lemmas::Bool::Decides::nat_tests), unfolding(crate::specs::Work::heads_for))]
 fn heads_for(words: usize, rows: usize) -> usize
     ensures { result ≡ heads_for words rows }
 {
-    if rows < ROW_RANGE - 1 {
-        if rows < words {
-            let free = words - rows;
-            let some = rows + SPARE_HEADS;
-            if free < some {
-                return free;
-            }
-            return some;
-        }
+    if rows < ROW_RANGE - 1 && rows < words {
+        (words - rows).min(rows + SPARE_HEADS)
+    } else {
+        0
     }
-    0
 }
 
 // Makes the octets ready for an index of that many rows, and answers how many heads it has: none where there is no room.

@@ -1,14 +1,10 @@
 -- Tests that only rows with a key pass, so that an index has every row that they ask for.
-use Prim.Native.Nat.{ℕ, zero, suc, ◌-◌, ◌^◌, ◌<◌}
-use mathlib.Core.Path.{◌≡◌, refl, sym, ap}
+use Prim.Native.Nat.{ℕ}
+use mathlib.Core.Path.{◌≡◌, sym}
 use mathlib.Core.List.{List}
-use mathlib.Core.Bool.{Bool, true, false, not, ◌&&◌, and-eq-true_iff, false≢true}
-use native.Mathlib.Omega.{arith}
-use borrow.Author.Tests.{ltb-true, ltb-false, eqb-true}
-use lib.Dec.{ltb}
-use lib.IntN.{ℤ, pos, negsuc, suc_ℤ}
+use mathlib.Core.Bool.{Bool, true, not, ◌&&◌, and-eq-true_iff}
+use lib.IntN.{pos, suc_ℤ}
 use lib.Signed.{lt_z}
-use mir.Val.{sel}
 use Rattle.octets.specs.Numbers.{signed, eq_z}
 use Rattle.octets.specs.Texts.{same, spell}
 use Rattle.octets.proofs.TextLaws.{same_equal}
@@ -51,35 +47,3 @@ module _ (t names : List ℕ) where
         let z : signed r ≡ q.zoom = sym (h (matrix_row t k).zoom g.0) in
         λ i. (x i, z i, pos 0, pos 0);
   }
-
--- ---- one below
--- how far below -1 a number is: an i64 is less than 2^63
-abbrev depth : ℤ → ℕ
-depth (pos n) = 0
-depth (negsuc n) = n
-
-depth-by : (a : ℕ) (x : Bool) → ltb a (2 ^ 63) ≡ x → depth (sel x (pos a) (negsuc (2 ^ 64 - suc a))) < 2 ^ 63
-depth-by a true e = omega arith
-depth-by a false e = omega (arith, ltb-false a (2 ^ 63) e)
-
-below-zero : (z : ℤ) → eq_z (suc_ℤ z) (pos 0) ≡ true → z ≡ negsuc 0
-below-zero (pos n) e = absurd (omega (arith, eqb-true (suc n) 0 e))
-below-zero (negsuc zero) e = refl
-below-zero (negsuc (suc n)) e = absurd (false≢true e)
-
-below_by : (p : ℕ) (x y : Bool) → p < 2 ^ 64 → (p ≡ 0 → ⊥) → ltb p (2 ^ 63) ≡ x → ltb (p - 1) (2 ^ 63) ≡ y → (z : ℤ) → depth z < 2 ^ 63
-    → eq_z (suc_ℤ z) (sel x (pos p) (negsuc (2 ^ 64 - suc p))) ≡ true → z ≡ sel y (pos (p - 1)) (negsuc (2 ^ 64 - suc (p - 1)))
-below_by p true true l o e f (pos n) d q = ap pos (omega (arith, eqb-true (suc n) p q))
-below_by p true true l o e f (negsuc zero) d q = absurd (omega (arith, eqb-true 0 p q))
-below_by p true true l o e f (negsuc (suc n)) d q = absurd (false≢true q)
-below_by p true false l o e f z d q = absurd (omega (arith, ltb-true p (2 ^ 63) e, ltb-false (p - 1) (2 ^ 63) f))
-below_by p false y l o e f (pos n) d q = absurd (false≢true q)
-below_by p false y l o e f (negsuc zero) d q = absurd (false≢true q)
-below_by p false true l o e f (negsuc (suc n)) d q = absurd (omega (arith, ltb-false p (2 ^ 63) e, ltb-true (p - 1) (2 ^ 63) f, eqb-true n (2 ^ 64 - suc p) q))
-below_by p false false l o e f (negsuc (suc n)) d q = ap negsuc (omega (arith, ltb-false (p - 1) (2 ^ 63) f, eqb-true n (2 ^ 64 - suc p) q))
-
-pub least-below : (p : ℕ) → p ≡ 0 → (a : ℕ) → eq_z (suc_ℤ (signed a)) (signed p) ≡ true → signed a ≡ signed 18446744073709551615
-least-below p o a q = below-zero (signed a) (rw o at q)
-
-pub one_below : (p : ℕ) → p < 2 ^ 64 → (p ≡ 0 → ⊥) → (a : ℕ) → eq_z (suc_ℤ (signed a)) (signed p) ≡ true → signed a ≡ signed (p - 1)
-one_below p l o a q = below_by p _ _ l o refl refl (signed a) (depth-by a _ refl) q

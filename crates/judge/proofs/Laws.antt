@@ -1,4 +1,5 @@
 -- What the rules' proofs share beyond the laws of tests.
+use Rattle.std.specs.Prelude.{None, Some}
 use Prim.Native.Nat.{ℕ, ◌<◌, ◌≤◌}
 use mathlib.Core.Path.{◌≡◌, refl, ap, ◌∙◌}
 use mathlib.Core.Bool.{Bool, true, false, cond, not}
@@ -8,60 +9,48 @@ use borrow.Author.Tests.{lt-ltb, le-ltb}
 use Rattle.octets.specs.Search.{first, any}
 use Rattle.octets.specs.Texts.{Nullable, There, Null}
 use Rattle.spelling.specs.ExtensionNames.{inside, is_extension_name}
-use Rattle.rules.specs.Judgments.{none, partner}
+use Rattle.rules.specs.Judgments.{none, partner, Judgment}
 use Rattle.rules.specs.Extensions.{lacks601}
 use Rattle.rules.specs.JudgmentLaws.{is_found, searched, found, missed}
-use Rattle.rules.specs.declared.Judgment.{Judgment}
-use Rattle.rules.specs.declared.Judgment.TheVariants.{Clean, Hit}
 use Rattle.index.specs.WorkLaws.{partner_of_all}
 use Rattle.seek.specs.TestLaws.{was_yes, was_no, tests}
 
--- a test, and its outcome, the other way round
-module _ (a r : Bool) where
-  pub not_same : r ≡ a → not r ≡ not a
-  not_same e = ap not e
-
-  pub not-false : false ≡ a → true ≡ not a
-  not-false e = ap not e
-
 -- a finding where there is none, and none where there is one
-pub turned : (b : Bool) → cond (not b) (Hit none) Clean ≡ cond b Clean (Hit none)
+pub turned : (b : Bool) → cond (not b) (Some none) None ≡ cond b None (Some none)
 turned true = refl
 turned false = refl
-
-pub ruleset wrongs = (not_same, not-false, tests, rules)
 
 pub ruleset searches = (is_found, searched, found, missed, rules)
 
 -- 351: the lowest row that breaks it, where the name has a tile (t) and is not free (f). The code asks in another order
 module _ (t f : Bool) (p : ℕ → Bool) (n r : ℕ) (e : r ≡ first p n) where
-  pub kept_351 : n ≤ r → Clean ≡ cond t (cond f Clean (partner (first p n) n)) Clean
+  pub kept_351 : n ≤ r → None ≡ cond t (cond f None (partner (first p n) n)) None
   unfolding partner
   kept_351 l = simp (← e, le-ltb r n l) (by t f)
     where
-      by : (a b : Bool) → Clean ≡ cond a (cond b Clean Clean) Clean
+      by : (a b : Bool) → ◌≡◌ {A = Judgment} None (cond a (cond b None None) None)
       by true true = refl
       by true false = refl
       by false b = refl
 
-  pub free_351 : true ≡ f → Clean ≡ cond t (cond f Clean (partner (first p n) n)) Clean
+  pub free_351 : true ≡ f → None ≡ cond t (cond f None (partner (first p n) n)) None
   free_351 h = simp (← h) (by t)
     where
-      by : (a : Bool) → Clean ≡ cond a Clean Clean
+      by : (a : Bool) → ◌≡◌ {A = Judgment} None (cond a None None)
       by true = refl
       by false = refl
 
-  pub bare_351 : false ≡ t → Clean ≡ cond t (cond f Clean (partner (first p n) n)) Clean
+  pub bare_351 : false ≡ t → None ≡ cond t (cond f None (partner (first p n) n)) None
   bare_351 h = simp (← h)
 
-  pub broken_351 : r < n → false ≡ f → true ≡ t → Hit r ≡ cond t (cond f Clean (partner (first p n) n)) Clean
+  pub broken_351 : r < n → false ≡ f → true ≡ t → Some r ≡ cond t (cond f None (partner (first p n) n)) None
   unfolding partner
   broken_351 l g h = simp (← g, ← h, ← e, lt-ltb r n l)
 
 pub ruleset gates = (was_yes, was_no, kept_351, free_351, bare_351, broken_351, rules)
 
 -- 601 asks for nothing where the column is NULL
-pub no_column : (t : Nullable (List ℕ)) → Clean ≡ lacks601 t Null
+pub no_column : (t : Nullable (List ℕ)) → None ≡ lacks601 t Null
 no_column (There x) = refl
 no_column Null = refl
 

@@ -1,4 +1,5 @@
 -- A number that is no code: the last arm of a match on codes.
+use Rattle.std.specs.Prelude.{None}
 use Prim.Native.Nat.{ℕ}
 use mathlib.Core.Path.{◌≡◌, refl, ap, ◌∙◌, subst}
 use mathlib.Core.Bool.{Bool, true, cond, ◌&&◌, and-eq-true_iff}
@@ -9,7 +10,6 @@ use lib.Dec.{eqb, ltb}
 use Rattle.pack.specs.Rows.{Pack}
 use Rattle.rules.specs.Codes.{table_of, judged, judged_none}
 use Rattle.rules.specs.CodeLaws.{Other, among, none-among, Covers, not_of_table}
-use Rattle.rules.specs.declared.Judgment.TheVariants.{Clean}
 use Rattle.judge.specs.declared.Plan.TheVariants.{Plain}
 use Rattle.judge.specs.Plans.{plan_of}
 
@@ -61,18 +61,18 @@ no_table-code code (c ∷ cs) v o =
     let h = (and-eq-true_iff (among (table_of c) table_numbers) (all_tabled cs)).0 v in
     (no_table-code code cs h.1 o, λ e. none-among (table_of code) table_numbers o (ap (λ (x : ℕ). among (table_of x) table_numbers) e ∙ h.0))
 
-pub no_table : (p : Pack) (code t i : ℕ) → t ≡ table_of code → Other t table_numbers → Clean ≡ judged p code i
+pub no_table : (p : Pack) (code t i : ℕ) → t ≡ table_of code → Other t table_numbers → None ≡ judged p code i
 unfolding judged table_of
 no_table p code t i e o =
-    past code row_codes (λ c. judged p c i) Clean Clean (no_table-code code row_codes refl (subst (λ (x : ℕ). Other x table_numbers) e o)) refl
+    past code row_codes (λ c. judged p c i) None None (no_table-code code row_codes refl (subst (λ (x : ℕ). Other x table_numbers) e o)) refl
 
 -- ---- other matches on codes
 abbrev pub none_codes : List ℕ
 none_codes = 171 ∷ 113 ∷ 112 ∷ 111 ∷ []
 
-pub no_none_code : (p : Pack) (code : ℕ) → Other code none_codes → Clean ≡ judged_none p code
+pub no_none_code : (p : Pack) (code : ℕ) → Other code none_codes → None ≡ judged_none p code
 unfolding judged_none
-no_none_code p code r = past code none_codes (judged_none p) Clean Clean r refl
+no_none_code p code r = past code none_codes (judged_none p) None None r refl
 
 abbrev pub plan_codes : List ℕ
 plan_codes = 571 ∷ 561 ∷ 551 ∷ 531 ∷ 452 ∷ 451 ∷ 441 ∷ 432 ∷ 431 ∷ 401 ∷ 392 ∷ 391 ∷ 351 ∷ 341 ∷ []

@@ -2,11 +2,10 @@
 use Rattle.std.specs.Prelude.{Bool}
 use Rattle.doubles.specs.declared.Extent.{Extent}
 use Rattle.pack.specs.Rows.{Rows, MatrixSet, Matrix, Tile}
-use Rattle.rules.specs.Judgments.{first_row}
+use Rattle.rules.specs.Judgments.{first_row, Judgment}
 use Rattle.rules.specs.Contents.{set_named}
 use Rattle.rules.specs.Matrices.{at_level, fits451, fits452, measured}
 use Rattle.rules.specs.Tiles.{off561, off571, placed}
-use Rattle.rules.specs.declared.Judgment.{Judgment}
 use Rattle.judge.specs.declared.Axis.{Axis}
 use Rattle.judge.specs.declared.Axis.TheVariants.{X, Y}
 

@@ -1,3 +1,4 @@
 pub mod Axes
 pub mod Plans
+pub mod PlanLaws
 pub mod RangeLaws

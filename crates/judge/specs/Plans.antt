@@ -2,8 +2,11 @@
 use Rattle.std.specs.Prelude.{ℕ, ◌/◌, List, cond, eqb, length}
 use Rattle.octets.specs.Slices.{nth}
 use Rattle.index.specs.declared.Kind.TheVariants.{Level, MatrixName, TilesName, SetName}
+use Rattle.pack.specs.Rows.{Pack, Matrix}
 use Rattle.pack.specs.Tables.{tile_count, tiles_in}
 use Rattle.pack.specs.declared.Form.{Form}
+use Rattle.rules.specs.Judgments.{Judgment}
+use Rattle.rules.specs.Matrices.{of351}
 use Rattle.index.specs.Keys.{Indexes, Shelves}
 use Rattle.index.specs.TileKeys.{TileNames}
 use Rattle.judge.specs.declared.Plan.{Plan}
@@ -45,3 +48,7 @@ PreparedMore Levels f ts w heads = Unit {0}
 PreparedMore Steps f ts w heads = TileNames (tiles_in f ts (nth ts 6)) w heads (tile_count f ts)
 PreparedMore Sizes f ts w heads = Unit {0}
 PreparedMore Ranges f ts w heads = Shelves MatrixName (nth ts 3) (nth ts 6) w heads (length (nth ts 3) / 64)
+
+-- 351, the rule that goes by both, on a whole pack
+abbrev pub stepped : Pack → Matrix → Judgment
+stepped p m = of351 p.matrices p.tiles p.extensions m

@@ -1,5 +1,5 @@
 -- 551: a tile whose name and zoom have a matrix row is inside the range.
-use Rattle.std.specs.Prelude.{ℕ, ◌<◌, ◌≡◌, true, false, ℤ, pos, negsuc}
+use Rattle.std.specs.Prelude.{ℕ, ◌<◌, ◌≡◌, true, false, ℤ, pos, negsuc, None}
 use Rattle.std.proofs.Math.Bool.{and-eq-true_iff}
 use Rattle.std.proofs.Common.{arith, le-ltb}
 use Rattle.std.specs.Int.Signed.{lt_z}
@@ -10,7 +10,6 @@ use Rattle.octets.proofs.SearchLaws.{first-lowest, any_some}
 use Rattle.pack.specs.Rows.{Rows, Matrix, Tile}
 use Rattle.rules.specs.Matrices.{matrix_named, at_level}
 use Rattle.rules.specs.Tiles.{at_most, at_least, of551}
-use Rattle.rules.specs.declared.Judgment.TheVariants.{Clean}
 
 irreflexive : (z : ℤ) → lt_z z z ≡ false
 irreflexive (pos n) = le-ltb n n (omega arith)
@@ -29,7 +28,7 @@ module _ (t : Tile) (q : Matrix) (e : at_level t.name t.zoom q ≡ true) where
   unfolding at_least
   level-least = simp (parts.0, ← eq_z_true t.zoom q.zoom parts.1, irreflexive t.zoom)
 
-pub inside_551 : (ms : Rows Matrix) (t : Tile) (k : ℕ) → k ≡ first (λ j. at_level t.name t.zoom (ms.row j)) ms.count → k < ms.count → Clean ≡ of551 ms t
+pub inside_551 : (ms : Rows Matrix) (t : Tile) (k : ℕ) → k ≡ first (λ j. at_level t.name t.zoom (ms.row j)) ms.count → k < ms.count → None ≡ of551 ms t
 unfolding of551
 inside_551 ms t k f l =
     let e = rw (← f) at ((first-lowest (λ j. at_level t.name t.zoom (ms.row j)) ms.count).here (rw f at l)) in

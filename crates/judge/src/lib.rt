@@ -1,12 +1,12 @@
 // The rules on rows as the code reads them, and the rule of a code.
+// A rule is given the slices that it reads, and not all tables: so its contract says which table it is on, and the survey lends two of them alone.
 #![tactic(auto)]
 
 ghost use Rattle.std.specs.Prelude.{◌≡◌, map};
 ghost use Rattle.pack.specs.Tables.{pack_in};
 ghost use Rattle.rules.specs.Codes.{table_of, judged, judged_none};
-ghost use Rattle.judge.specs.Plans.{plan_of, Prepared, PreparedMore};
 
-use pack::{CONTENTS, Form, NAMES, REFERENCES, SLICE_COUNT, slice_of};
+use pack::{CONTENTS, NAMES, REFERENCES, Tables};
 use rules::Judgment;
 
 mod contents;
@@ -21,7 +21,7 @@ mod tiles;
 use contents::judge_contents;
 use extensions::judge_extension;
 use matrices::judge_matrix;
-pub use plans::{prepare, prepare_more};
+pub use plans::Ready;
 use references::{MINUS_ONE, judge_reference, lacks_id};
 use sets::judge_set;
 use tiles::judge_tile;
@@ -32,14 +32,14 @@ pub use judgments::{fault_if, partner_of, unless_found};
 pub use matrices::first_step;
 pub use tiles::placed;
 
-// The axis that a rule measures: 451 and 561 go by x, 452 and 571 by y.
+// The axis that a rule measures: 451 and 561 go by x, 452 and 571 by y. A value and no closure, since `fits_along` and `off_along`, of which contracts speak, take it.
 #[derive(Clone, Copy)]
 pub enum Axis {
     X,
     Y,
 }
 
-// Which index a code goes by.
+// Which index a code goes by. An enum, since `Prepared` and `PreparedMore` say by its cases what the lent octets hold.
 #[derive(Clone, Copy)]
 pub enum Plan {
     // none
@@ -58,45 +58,34 @@ pub enum Plan {
     Ranges,
 }
 
-// What the rule of a code says of row i of the code's table. The lent octets are as the code's plan has them.
-pub fn judge(
-    form: Form,
-    tables: [&[u8]; SLICE_COUNT],
-    work: &[u8],
-    heads: usize,
-    more_work: &[u8],
-    more_heads: usize,
-    code: u32,
-    table: u32,
-    i: usize,
-) -> Judgment
-    requires table_value { table ≡ table_of code }
-    requires prepared { Prepared (plan_of code) (map (λ x. x.now) tables) work.now heads }
-    requires prepared_more { PreparedMore (plan_of code) form (map (λ x. x.now) tables) more_work.now more_heads }
-    ensures { result ≡ judged (pack_in form (map (λ x. x.now) tables.entry)) code i }
+// What the rule of the code says of row i of the code's table. Here and in the judge of each table codes are numbers: what C gives, and what `judged` takes.
+pub fn judge(ready: Ready, table: u32, i: usize) -> Judgment
+    requires { table ≡ table_of ready.code }
+    ensures { result ≡ judged (pack_in ready.entry.tables.form (map (λ x. x.now) ready.entry.tables.slices)) ready.entry.code i }
 {
     match table {
-        1 => judge_reference(form, tables, code, i),
-        2 => judge_contents(form, tables, work, heads, code, i),
-        3 => judge_set(form, tables, work, heads, code, i),
-        4 => judge_matrix(form, tables, work, heads, more_work, more_heads, code, i),
-        5 => judge_tile(form, tables, work, heads, more_work, more_heads, code, i),
-        6 => judge_extension(form, tables, code, i),
-        _ => Judgment::Clean,
+        1 => judge_reference(ready, i),
+        2 => judge_contents(ready, i),
+        3 => judge_set(ready, i),
+        4 => judge_matrix(ready, i),
+        5 => judge_tile(ready, i),
+        6 => judge_extension(ready, i),
+        _ => None,
     }
 }
 
 // What the rule of a code says without a row.
-pub fn judge_none(form: Form, tables: [&[u8]; SLICE_COUNT], code: u32) -> Judgment
-    ensures { result ≡ judged_none (pack_in form (map (λ x. x.now) tables.entry)) code }
+#[tactic(auto, unfolding(rules::specs::Codes::judged_none))]
+pub fn judge_none(tables: Tables, code: u32) -> Judgment
+    ensures { result ≡ judged_none (pack_in tables.entry.form (map (λ x. x.now) tables.entry.slices)) code }
 {
-    let references = slice_of(tables, REFERENCES);
-    let names = slice_of(tables, NAMES);
+    let references = tables.slice_of(REFERENCES);
+    let names = tables.slice_of(NAMES);
     match code {
         111 => lacks_id(references, names, 4326),
         112 => lacks_id(references, names, MINUS_ONE),
         113 => lacks_id(references, names, 0),
-        171 => contents::none_171(slice_of(tables, CONTENTS), names),
-        _ => Judgment::Clean,
+        171 => contents::none_171(tables.slice_of(CONTENTS), names),
+        _ => None,
     }
 }

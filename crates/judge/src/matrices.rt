@@ -4,45 +4,39 @@ ghost use Rattle.std.proofs.Math.IntN.{suc_ℤ};
 ghost use Rattle.std.specs.Int.Signed.{lt_z};
 ghost use Rattle.octets.specs.Numbers.{signed, eq_z};
 ghost use Rattle.octets.specs.Search.{first};
+ghost use Rattle.octets.specs.Slices.{nth};
 ghost use Rattle.octets.specs.Texts.{spell};
 ghost use Rattle.doubles.specs.Doubles.{positive};
 ghost use Rattle.pack.specs.Tables.{matrix_of, matrices_of, sets_of, tile_count, tiles_in, extensions_of, pack_in};
 ghost use Rattle.rules.specs.Judgments.{fault_if, some};
-ghost use Rattle.rules.specs.Matrices.{at_level, tile_named, frees, breaks351, of351, of432, measured, of531};
+ghost use Rattle.rules.specs.Matrices.{at_level, tile_named, frees, breaks351, of432, measured, of531};
 ghost use Rattle.rules.specs.Codes.{table_of, judged};
 ghost use Rattle.index.specs.declared.Kind.TheVariants.{Level, MatrixName, SetName};
 ghost use Rattle.index.specs.Keys.{Indexes, Shelves};
 ghost use Rattle.index.specs.TileKeys.{TileNames};
 ghost use Rattle.judge.specs.Axes.{fits_along, of_measured};
-ghost use Rattle.judge.specs.Plans.{plan_of, Prepared, PreparedMore};
+ghost use Rattle.judge.specs.Plans.{Prepared, PreparedMore, stepped};
+ghost use Rattle.judge.specs.declared.Plan.TheVariants.{Steps};
 
-use crate::Axis;
 use crate::contents::unless_tiles_name;
 use crate::judgments::{fault_if, partner_of, with_earlier};
 use crate::sets::first_named;
+use crate::{Axis, Ready};
 use doubles::Extent;
-use index::Key;
+use index::{Index, Key};
 use listing::{ExtensionTable, MatrixTable, SetTable};
 use octets::Name;
-use pack::{CONTENTS, EXTENSIONS, Form, MATRICES, MatrixRow, NAMES, SETS, SLICE_COUNT, slice_of};
+use pack::{CONTENTS, EXTENSIONS, MATRICES, MatrixRow, NAMES, SETS, Tables};
 use rules::Judgment;
-use seek::{ExtensionTest, MatrixTest};
+use seek::MatrixTest;
 
 // ---- 351
 
-fn has_tile(
-    form: Form,
-    tables: [&[u8]; SLICE_COUNT],
-    names: &[u8],
-    more_work: &[u8],
-    more_heads: usize,
-    x: Name,
-) -> bool
-    requires { TileNames (tiles_in form (map (λ x. x.now) tables) names.now) more_work.now more_heads (tile_count form (map (λ x. x.now) tables)) }
-    ensures { result ≡ some (tile_named (spell names.now x)) (tiles_in form (map (λ x. x.now) tables.entry) names.now) }
+fn has_tile(tables: Tables, names: &[u8], index: Index, x: Name) -> bool
+    requires { TileNames (tiles_in tables.form (map (λ x. x.now) tables.slices) names.now) index.work.now index.heads (tile_count tables.form (map (λ x. x.now) tables.slices)) }
+    ensures { result ≡ some (tile_named (spell names.now x)) (tiles_in tables.entry.form (map (λ x. x.now) tables.entry.slices) names.now) }
 {
-    let n = pack::tile_count(form, tables);
-    index::find_name(form, tables, names, more_work, more_heads, x) < n
+    index.find_name(tables, names, x) < tables.tile_count()
 }
 
 // An extension row frees the name from the rule.
@@ -50,105 +44,77 @@ fn is_free(extensions: &[u8], names: &[u8], x: Name) -> bool
     ensures { result ≡ some (frees (spell names.now x)) (extensions_of extensions.now names.now) }
 {
     let n = extensions.len() / (ExtensionTable::ROW as usize);
-    seek::first_extension(extensions, names, ExtensionTest::Frees(x), n) < n
+    seek::first_free(extensions, names, x, n) < n
 }
 
 // The pattern of what is one below p: whatever is one below p is that.
 fn one_less(p: u64) -> u64
     ensures { (a : ℕ) → eq_z (suc_ℤ (signed a)) (signed p) ≡ true → signed a ≡ signed result }
 {
-    if p == 0 {
-        return 18446744073709551615;
-    }
-    p - 1
+    p.wrapping_sub(1)
 }
 
 // The lowest matrix row that breaks 351 with a row, or the count: it is one level lower.
-pub fn first_step(matrices: &[u8], names: &[u8], work: &[u8], heads: usize, q: MatrixRow) -> usize
-    requires { Shelves Level matrices.now names.now work.now heads (length matrices.now / 64) }
+pub fn first_step(matrices: &[u8], names: &[u8], index: Index, q: MatrixRow) -> usize
+    requires { Shelves Level matrices.now names.now index.work.now index.heads (length matrices.now / 64) }
     ensures { result ≡ first (λ j. breaks351 (matrix_of names.now q) ((matrices_of matrices.now names.now).row j)) (length matrices.now / 64) }
 {
-    let name = q.name;
     let key = Key::Level {
-        name,
+        name: q.name,
         zoom: one_less(q.zoom),
     };
-    index::lowest(matrices, names, work, heads, key, MatrixTest::Breaks351(q))
+    let test = MatrixTest::Breaks351(q);
+    index.lowest(matrices, names, key, test)
 }
 
-// Most rows break nothing, so that is asked first.
-pub fn of_351(
-    form: Form,
-    tables: [&[u8]; SLICE_COUNT],
-    matrices: &[u8],
-    extensions: &[u8],
-    names: &[u8],
-    work: &[u8],
-    heads: usize,
-    more_work: &[u8],
-    more_heads: usize,
-    q: MatrixRow,
-) -> Judgment
-    requires shelves { Shelves Level matrices.now names.now work.now heads (length matrices.now / 64) }
-    requires tile_names { TileNames (tiles_in form (map (λ x. x.now) tables) names.now) more_work.now more_heads (tile_count form (map (λ x. x.now) tables)) }
-    ensures { result ≡ of351 (matrices_of matrices.now names.now) (tiles_in form (map (λ x. x.now) tables.entry) names.now) (extensions_of extensions.now names.now) (matrix_of names.now q) }
+// Most rows break nothing, so that is asked first; and the three questions are asked one by one, since with `&&` the proof has more joins and the code is no plainer.
+pub fn of_351(tables: Tables, steps: Index, tile_names: Index, q: MatrixRow) -> Judgment
+    requires prepared { Prepared Steps (map (λ x. x.now) tables.slices) steps.work.now steps.heads }
+    requires prepared_more { PreparedMore Steps tables.form (map (λ x. x.now) tables.slices) tile_names.work.now tile_names.heads }
+    ensures { result ≡ stepped (pack_in tables.entry.form (map (λ x. x.now) tables.entry.slices)) (matrix_of (nth (map (λ x. x.now) tables.entry.slices) 6) q) }
 {
+    let matrices = tables.slice_of(MATRICES);
+    let names = tables.slice_of(NAMES);
     let n = matrices.len() / (MatrixTable::ROW as usize);
-    let k = first_step(matrices, names, work, heads, q);
+    let k = first_step(matrices, names, steps, q);
     if n <= k {
-        return Judgment::Clean;
+        return None;
     }
-    if is_free(extensions, names, q.name) {
-        return Judgment::Clean;
+    if is_free(tables.slice_of(EXTENSIONS), names, q.name) {
+        return None;
     }
-    if has_tile(form, tables, names, more_work, more_heads, q.name) {
-        return Judgment::Hit(k);
+    if has_tile(tables, names, tile_names, q.name) {
+        return Some(k);
     }
-    Judgment::Clean
+    None
 }
 
 // ---- 432
 
 // The first matrix row with the name and the zoom level, or the count.
-pub fn first_level(
-    matrices: &[u8],
-    names: &[u8],
-    work: &[u8],
-    heads: usize,
-    x: Name,
-    zoom: u64,
-) -> usize
-    requires { Indexes Level matrices.now names.now work.now heads (length matrices.now / 64) }
+pub fn first_level(matrices: &[u8], names: &[u8], index: Index, x: Name, zoom: u64) -> usize
+    requires { Indexes Level matrices.now names.now index.work.now index.heads (length matrices.now / 64) }
     ensures { result ≡ first (λ j. at_level (spell names.now x) (signed zoom) ((matrices_of matrices.now names.now).row j)) (length matrices.now / 64) }
 {
-    index::find_level(matrices, names, work, heads, x, zoom)
+    index.find_level(matrices, names, x, zoom)
 }
 
-pub fn of_432(
-    matrices: &[u8],
-    names: &[u8],
-    work: &[u8],
-    heads: usize,
-    q: MatrixRow,
-    i: usize,
-) -> Judgment
-    requires { Indexes Level matrices.now names.now work.now heads (length matrices.now / 64) }
+#[tactic(auto, unfolding(pack::specs::Tables::matrix_of, rules::specs::Matrices::of432))]
+pub fn of_432(matrices: &[u8], names: &[u8], index: Index, q: MatrixRow, i: usize) -> Judgment
+    requires { Indexes Level matrices.now names.now index.work.now index.heads (length matrices.now / 64) }
     ensures { result ≡ of432 (matrices_of matrices.now names.now) (matrix_of names.now q) i }
 {
-    let name = q.name;
-    with_earlier(
-        matrices,
-        names,
-        work,
-        heads,
-        Key::Level { name, zoom: q.zoom },
-        i,
-    )
+    let key = Key::Level {
+        name: q.name,
+        zoom: q.zoom,
+    };
+    with_earlier(matrices, names, index, key, i)
 }
 
 // ---- 451, 452: k is the first set row of the matrix's name
 
 // The names stand in what a row means; the test does not ask for them.
+#[tactic(auto, unfolding(rules::specs::Matrices::fits451, rules::specs::Matrices::fits452, pack::specs::Tables::matrix_of))]
 fn does_fit(names: &[u8], along: Axis, m: MatrixRow, e: Extent) -> bool
     ensures { result ≡ fits_along along (matrix_of names.now m) e }
 {
@@ -161,31 +127,17 @@ fn does_fit(names: &[u8], along: Axis, m: MatrixRow, e: Extent) -> bool
 fn measured(sets: &[u8], names: &[u8], along: Axis, m: MatrixRow, k: usize) -> Judgment
     ensures { result ≡ measured (fits_along along) (sets_of sets.now names.now) (matrix_of names.now m) k }
 {
-    if k < sets.len() / (SetTable::ROW as usize) {
-        let q = pack::set_at(sets, k);
-        return fault_if(!does_fit(names, along, m, q.extent));
-    }
-    Judgment::Clean
+    let n = sets.len() / (SetTable::ROW as usize);
+    fault_if(k < n && !does_fit(names, along, m, pack::set_at(sets, k).extent))
 }
 
-pub fn of_measured(
-    sets: &[u8],
-    names: &[u8],
-    work: &[u8],
-    heads: usize,
-    along: Axis,
-    q: MatrixRow,
-) -> Judgment
-    requires { Indexes SetName sets.now names.now work.now heads (length sets.now / 48) }
+#[tactic(auto, unfolding(pack::specs::Tables::matrix_of))]
+pub fn of_measured(sets: &[u8], names: &[u8], index: Index, along: Axis, q: MatrixRow) -> Judgment
+    requires { Indexes SetName sets.now names.now index.work.now index.heads (length sets.now / 48) }
     ensures { result ≡ of_measured along (sets_of sets.now names.now) (matrix_of names.now q) }
 {
-    measured(
-        sets,
-        names,
-        along,
-        q,
-        first_named(sets, names, work, heads, q.name),
-    )
+    let k = first_named(sets, names, index, q.name);
+    measured(sets, names, along, q, k)
 }
 
 // ---- 461, 471, 481, 491, 501: by the number, and the least that it may be
@@ -206,51 +158,33 @@ pub fn unless_positive(size: f64) -> Judgment
 
 // ---- 531
 
-pub fn of_531(matrices: &[u8], names: &[u8], work: &[u8], heads: usize, q: MatrixRow) -> Judgment
-    requires { Shelves MatrixName matrices.now names.now work.now heads (length matrices.now / 64) }
+#[tactic(auto, unfolding(rules::specs::Matrices::of531))]
+pub fn of_531(matrices: &[u8], names: &[u8], index: Index, q: MatrixRow) -> Judgment
+    requires { Shelves MatrixName matrices.now names.now index.work.now index.heads (length matrices.now / 64) }
     ensures { result ≡ of531 (matrices_of matrices.now names.now) (matrix_of names.now q) }
 {
     let n = matrices.len() / (MatrixTable::ROW as usize);
-    partner_of(index::lowest_531(matrices, names, work, heads, q), n)
+    partner_of(index.lowest_531(matrices, names, q), n)
 }
 
 // What the rule of a code says of a matrix.
-pub fn judge_matrix(
-    form: Form,
-    tables: [&[u8]; SLICE_COUNT],
-    work: &[u8],
-    heads: usize,
-    more_work: &[u8],
-    more_heads: usize,
-    code: u32,
-    i: usize,
-) -> Judgment
-    requires code_value { table_of code ≡ 4 }
-    requires prepared { Prepared (plan_of code) (map (λ x. x.now) tables) work.now heads }
-    requires prepared_more { PreparedMore (plan_of code) form (map (λ x. x.now) tables) more_work.now more_heads }
-    ensures { result ≡ judged (pack_in form (map (λ x. x.now) tables.entry)) code i }
+#[tactic(auto, unfolding(rules::specs::Codes::judged, crate::specs::Plans::plan_of, rules::specs::Matrices::of431, rules::specs::Matrices::of451, rules::specs::Matrices::of452, rules::specs::Matrices::of461, rules::specs::Matrices::of471, rules::specs::Matrices::of481, rules::specs::Matrices::of491, rules::specs::Matrices::of501, rules::specs::Matrices::of511, rules::specs::Matrices::of521, pack::specs::Tables::matrix_of))]
+pub fn judge_matrix(ready: Ready, i: usize) -> Judgment
+    requires { table_of ready.code ≡ 4 }
+    ensures { result ≡ judged (pack_in ready.entry.tables.form (map (λ x. x.now) ready.entry.tables.slices)) ready.entry.code i }
 {
-    let sets = slice_of(tables, SETS);
-    let matrices = slice_of(tables, MATRICES);
-    let names = slice_of(tables, NAMES);
+    let tables = ready.tables;
+    let index = ready.first;
+    let sets = tables.slice_of(SETS);
+    let matrices = tables.slice_of(MATRICES);
+    let names = tables.slice_of(NAMES);
     let q = pack::matrix_at(matrices, i);
-    match code {
-        351 => of_351(
-            form,
-            tables,
-            matrices,
-            slice_of(tables, EXTENSIONS),
-            names,
-            work,
-            heads,
-            more_work,
-            more_heads,
-            q,
-        ),
-        431 => unless_tiles_name(slice_of(tables, CONTENTS), names, work, heads, q.name),
-        432 => of_432(matrices, names, work, heads, q, i),
-        451 => of_measured(sets, names, work, heads, Axis::X, q),
-        452 => of_measured(sets, names, work, heads, Axis::Y, q),
+    match ready.code {
+        351 => of_351(tables, index, ready.second, q),
+        431 => unless_tiles_name(tables.slice_of(CONTENTS), names, index, q.name),
+        432 => of_432(matrices, names, index, q, i),
+        451 => of_measured(sets, names, index, Axis::X, q),
+        452 => of_measured(sets, names, index, Axis::Y, q),
         461 => if_below(0, q.zoom),
         471 => if_below(1, q.width),
         481 => if_below(1, q.height),
@@ -258,7 +192,7 @@ pub fn judge_matrix(
         501 => if_below(1, q.tile_height),
         511 => unless_positive(q.pixel_x),
         521 => unless_positive(q.pixel_y),
-        531 => of_531(matrices, names, work, heads, q),
-        _ => Judgment::Clean,
+        531 => of_531(matrices, names, index, q),
+        _ => None,
     }
 }

@@ -7,14 +7,16 @@ ghost use Rattle.rules.specs.Judgments.{fault_if};
 ghost use Rattle.rules.specs.References.{of101, wrong111, of111, wrong_undefined, lacks_id};
 ghost use Rattle.rules.specs.Codes.{table_of, judged};
 
+use crate::Ready;
 use crate::judgments::{fault_if, partner_of, unless_found};
 use listing::ReferenceTable;
-use pack::{Form, NAMES, REFERENCES, ReferenceRow, SLICE_COUNT, slice_of};
+use pack::{NAMES, REFERENCES, ReferenceRow};
 use rules::Judgment;
 
 // The pattern of -1.
-pub const MINUS_ONE: u64 = 18446744073709551615;
+pub const MINUS_ONE: u64 = u64::MAX;
 
+#[tactic(auto, unfolding(rules::specs::References::of101, pack::specs::Tables::reference_of))]
 pub fn of_101(references: &[u8], names: &[u8], r: ReferenceRow, i: usize) -> Judgment
     ensures { result ≡ of101 (references_of references.now names.now) (reference_of names.now r) i }
 {
@@ -24,6 +26,7 @@ pub fn of_101(references: &[u8], names: &[u8], r: ReferenceRow, i: usize) -> Jud
 // ---- 111, 112, 113
 
 // The organization is the word, given in capitals, in any letter case.
+#[tactic(auto, unfolding(pack::specs::Tables::reference_of))]
 fn is_organization(names: &[u8], r: ReferenceRow, word: &[u8]) -> bool
     ensures { result ≡ in_any_case (reference_of names.now r).organization word.now }
 {
@@ -33,15 +36,11 @@ fn is_organization(names: &[u8], r: ReferenceRow, word: &[u8]) -> bool
 fn is_wrong_111(names: &[u8], r: ReferenceRow) -> bool
     ensures { result ≡ wrong111 (reference_of names.now r) }
 {
-    if octets::is_equal(4326, r.srs_id) {
-        if octets::is_equal(4326, r.coordsys_id) {
-            return !is_organization(names, r, b"EPSG");
-        }
-        return true;
-    }
-    false
+    octets::is_equal(4326, r.srs_id)
+        && !(octets::is_equal(4326, r.coordsys_id) && is_organization(names, r, b"EPSG"))
 }
 
+#[tactic(auto, unfolding(rules::specs::References::of111))]
 pub fn of_111(names: &[u8], r: ReferenceRow) -> Judgment
     ensures { result ≡ of111 (reference_of names.now r) }
 {
@@ -51,15 +50,10 @@ pub fn of_111(names: &[u8], r: ReferenceRow) -> Judgment
 fn is_wrong_undefined(names: &[u8], id: u64, r: ReferenceRow) -> bool
     ensures { result ≡ wrong_undefined (signed id) (reference_of names.now r) }
 {
-    if octets::is_equal(id, r.srs_id) {
-        if octets::is_equal(id, r.coordsys_id) {
-            if octets::is_name(names, r.definition, b"undefined") {
-                return !is_organization(names, r, b"NONE");
-            }
-        }
-        return true;
-    }
-    false
+    octets::is_equal(id, r.srs_id)
+        && !(octets::is_equal(id, r.coordsys_id)
+            && octets::is_name(names, r.definition, b"undefined")
+            && is_organization(names, r, b"NONE"))
 }
 
 // 112, 113: by the id of the undefined system.
@@ -78,18 +72,19 @@ pub fn lacks_id(references: &[u8], names: &[u8], id: u64) -> Judgment
 }
 
 // What the rule of a code says of a reference row.
-pub fn judge_reference(form: Form, tables: [&[u8]; SLICE_COUNT], code: u32, i: usize) -> Judgment
-    requires { table_of code ≡ 1 }
-    ensures { result ≡ judged (pack_in form (map (λ x. x.now) tables.entry)) code i }
+#[tactic(auto, unfolding(rules::specs::Codes::judged, rules::specs::References::of112, rules::specs::References::of113))]
+pub fn judge_reference(ready: Ready, i: usize) -> Judgment
+    requires { table_of ready.code ≡ 1 }
+    ensures { result ≡ judged (pack_in ready.entry.tables.form (map (λ x. x.now) ready.entry.tables.slices)) ready.entry.code i }
 {
-    let references = slice_of(tables, REFERENCES);
-    let names = slice_of(tables, NAMES);
+    let references = ready.tables.slice_of(REFERENCES);
+    let names = ready.tables.slice_of(NAMES);
     let r = pack::reference_at(references, i);
-    match code {
+    match ready.code {
         101 => of_101(references, names, r, i),
         111 => of_111(names, r),
         112 => of_undefined(names, MINUS_ONE, r),
         113 => of_undefined(names, 0, r),
-        _ => Judgment::Clean,
+        _ => None,
     }
 }

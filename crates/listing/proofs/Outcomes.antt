@@ -3,6 +3,8 @@ use Prim.Native.Nat.{ℕ, ◌+◌, ◌<◌, ◌≤◌}
 use mathlib.Core.Path.{◌≡◌, refl, sym, ap, ◌∙◌, subst}
 use mathlib.Core.List.{List}
 use mathlib.Core.Bool.{Bool, true, false, not}
+use Rattle.std.specs.Prelude.{Result, Ok, Err, IsErrAnd}
+use Rattle.std.proofs.lemmas.Result.{err_from_is_err_and}
 use borrow.Author.Rules.{rules}
 use borrow.Author.Tests.{lt-ltb, le-ltb, ltb-false, eq-eqb, ne_eqb}
 use lib.Dec.{eqb, ltb}
@@ -10,75 +12,78 @@ use lib.ListN.{length}
 use Rattle.octets.specs.Search.{first, any}
 use Rattle.octets.specs.SearchLaws.{finds, misses}
 use Rattle.octets.specs.Texts.{outside}
-use Rattle.octets.specs.declared.Text.{Text}
+use Rattle.octets.specs.Texts.{Text}
 use Rattle.listing.specs.Formats.{longest, table_count, table_number}
 use Rattle.listing.specs.Listing.{table_in, tables_in, numbered, rows_as, layout}
 use Rattle.listing.specs.TableLaws.{numbered_in}
-use Rattle.listing.specs.Refusals.{Reason, ill, lowest_faulty_row, faulty_table, flagged, header_reasons, row_reasons, reasons_in, decide_by, checked, outcome}
+use Rattle.listing.specs.Refusals.{Reason, Checked, Outcome, refusal, ill, lowest_faulty_row, faulty_table, flagged, header_reasons, row_reasons, reasons_in, decide_by, checked, outcome}
 use Rattle.listing.specs.ReasonLaws.{there_at, answer_by, Passed, passed_none, past_1, past_2, past_3, pasts, decide-past, decide_stop, decide-both, decide_fault, decide-clean, good-exactly}
 use Rattle.listing.specs.RefusalLaws.{reasons, reasons_in_lem}
 use Rattle.listing.specs.FaultLaws.{asked, Found, none-second, second-named, second-there, second-row}
 use Rattle.listing.specs.declared.Format.{Format}
 use Rattle.listing.specs.declared.Format.TheVariants.{Edition1}
 use Rattle.listing.specs.declared.TextFault.TheVariants.{Outside, Either}
-use Rattle.listing.specs.declared.Checked.{Checked}
-use Rattle.listing.specs.declared.Checked.TheVariants.{Clean, Fault}
-use Rattle.listing.specs.declared.Outcome.{Outcome}
-use Rattle.listing.specs.declared.Outcome.TheVariants.{Accepted, Refused}
+use Rattle.listing.specs.declared.Why.{Why}
+use Rattle.listing.specs.declared.Why.TheVariants as why
+use Rattle.listing.specs.declared.Refusal.{Refusal}
+
+-- what a `?` hands on
+pub handed : {A : Type 0} (x : Refusal) (r : Result A Refusal) → IsErrAnd r (λ e. e ≡ x) → r ≡ Err x
+handed x r h = let p = err_from_is_err_and r h in p.1 ∙ ap (λ (e : Refusal). Err e) p.2
 
 -- reason k, from 0, of some
-pub check_stop : (k : ℕ) (xs : List Reason) (r : Checked) → Passed xs k → there_at xs k ≡ true → r ≡ answer_by Fault xs k Clean → r ≡ checked xs
+pub check_stop : (k : ℕ) (xs : List Reason) (r : Checked) → Passed xs k → there_at xs k ≡ true → r ≡ answer_by Err xs k (Ok tt) → r ≡ checked xs
 unfolding checked
-check_stop k xs r h e q = q ∙ sym (decide_stop Fault xs Clean k h e)
+check_stop k xs r h e q = q ∙ sym (decide_stop Err xs (Ok tt) k h e)
 
 -- and past the last of them
-pub header-past : (f : Format) (s : List ℕ) (r : Checked) → Passed (header_reasons f s) 6 → r ≡ Clean → r ≡ checked (header_reasons f s)
+pub header-past : (f : Format) (s : List ℕ) (r : Checked) → Passed (header_reasons f s) 6 → r ≡ Ok tt → r ≡ checked (header_reasons f s)
 unfolding checked header_reasons
-header-past f s r h q = q ∙ sym (decide-past Fault (header_reasons f s) Clean 6 h)
+header-past f s r h q = q ∙ sym (decide-past Err (header_reasons f s) (Ok tt) 6 h)
 
-pub rows-past : (f : Format) (ts : ℕ → List ℕ) (r : Checked) → Passed (row_reasons f ts) 3 → r ≡ Clean → r ≡ checked (row_reasons f ts)
+pub rows-past : (f : Format) (ts : ℕ → List ℕ) (r : Checked) → Passed (row_reasons f ts) 3 → r ≡ Ok tt → r ≡ checked (row_reasons f ts)
 unfolding checked row_reasons
-rows-past f ts r h q = q ∙ sym (decide-past Fault (row_reasons f ts) Clean 3 h)
+rows-past f ts r h q = q ∙ sym (decide-past Err (row_reasons f ts) (Ok tt) 3 h)
 
 -- ---- a listing: what the check of its header has said
 module _ (f : Format) (s : List ℕ) (c r : Checked) (h : c ≡ checked (header_reasons f s)) where
-  pub header_fault : (n t i : ℕ) → c ≡ Fault n t i → r ≡ Fault n t i → r ≡ checked (reasons_in f s)
+  pub header_fault : (x : Refusal) → c ≡ Err x → IsErrAnd r (λ e. e ≡ x) → r ≡ checked (reasons_in f s)
   unfolding checked
-  header_fault n t i e q =
-      q ∙ sym (decide-both Fault (header_reasons f s) (row_reasons f (table_in f s)) Clean ∙ decide_fault Fault (header_reasons f s) (decide_by Fault (row_reasons f (table_in f s)) Clean) n t i (sym h ∙ e))
+  header_fault x e q =
+      handed x r q ∙ sym (decide-both Err (header_reasons f s) (row_reasons f (table_in f s)) (Ok tt) ∙ decide_fault Err (header_reasons f s) (decide_by Err (row_reasons f (table_in f s)) (Ok tt)) x (sym h ∙ e))
 
   -- and then that of its rows
-  pub header-clean : (ts : List (List ℕ)) → c ≡ Clean → ts ≡ tables_in f s → r ≡ checked (row_reasons f (numbered ts)) → r ≡ checked (reasons_in f s)
+  pub header-clean : (ts : List (List ℕ)) → c ≡ Ok tt → ts ≡ tables_in f s → r ≡ checked (row_reasons f (numbered ts)) → r ≡ checked (reasons_in f s)
   unfolding checked
   header-clean ts e d q =
-      q ∙ ap (λ (u : ℕ → List ℕ). decide_by Fault (row_reasons f u) Clean) (ap numbered d ∙ numbered_in f s)
-      ∙ sym (decide-both Fault (header_reasons f s) (row_reasons f (table_in f s)) Clean ∙ decide-clean Fault (header_reasons f s) (decide_by Fault (row_reasons f (table_in f s)) Clean) (sym h ∙ e))
+      q ∙ ap (λ (u : ℕ → List ℕ). decide_by Err (row_reasons f u) (Ok tt)) (ap numbered d ∙ numbered_in f s)
+      ∙ sym (decide-both Err (header_reasons f s) (row_reasons f (table_in f s)) (Ok tt) ∙ decide-clean Err (header_reasons f s) (decide_by Err (row_reasons f (table_in f s)) (Ok tt)) (sym h ∙ e))
 
 -- where the header is right, a listing is no longer than its format has it
-pub header-longest : (f : Format) (s : List ℕ) (c : Checked) → c ≡ checked (header_reasons f s) → c ≡ Clean → length s ≤ longest f
+pub header-longest : (f : Format) (s : List ℕ) (c : Checked) → c ≡ checked (header_reasons f s) → c ≡ Ok tt → length s ≤ longest f
 unfolding checked header_reasons
-header-longest f s c h e = ltb-false (longest f) (length s) ((good-exactly Fault is_clean (λ n t r. refl) (header_reasons f s) Clean refl).0 (ap is_clean (sym h ∙ e)) 1)
+header-longest f s c h e = ltb-false (longest f) (length s) ((good-exactly Err is_clean (λ e. refl) (header_reasons f s) (Ok tt) refl).0 (ap is_clean (sym h ∙ e)) 1)
   where
     is_clean : Checked → Bool
-    is_clean Clean = true
-    is_clean (Fault n t r) = false
+    is_clean (Ok tt) = true
+    is_clean (Err e) = false
 
 -- ---- edition 1: the outcome, by what was said
 module _ (s : List ℕ) (c : Checked) (r : Outcome) (h : c ≡ checked (reasons_in Edition1 s)) where
   said : checked (reasons s) ≡ c
   said = ap checked (reasons_in_lem s) ∙ sym h
 
-  pub accept_fault : (n t i : ℕ) → c ≡ Fault n t i → r ≡ Refused n t i → r ≡ outcome s
+  pub accept_fault : (x : Refusal) → c ≡ Err x → IsErrAnd r (λ e. e ≡ x) → r ≡ outcome s
   unfolding outcome
-  accept_fault n t i e q = q ∙ sym (decide_fault Refused (reasons s) (Accepted (layout s)) n t i (said ∙ e))
+  accept_fault x e q = handed x r q ∙ sym (decide_fault Err (reasons s) (Ok (layout s)) x (said ∙ e))
 
-  pub accept_clean : c ≡ Clean → r ≡ Accepted (layout s) → r ≡ outcome s
+  pub accept_clean : c ≡ Ok tt → r ≡ Ok (layout s) → r ≡ outcome s
   unfolding outcome
-  accept_clean e q = q ∙ sym (decide-clean Refused (reasons s) (Accepted (layout s)) (said ∙ e))
+  accept_clean e q = q ∙ sym (decide-clean Err (reasons s) (Ok (layout s)) (said ∙ e))
 
 -- the place, by numbers that equal its own
-pub faulted : (r : Checked) (n t i u j : ℕ) → r ≡ Fault n t i → t ≡ u → i ≡ j → r ≡ Fault n u j
-faulted r n t i u j e f g = cc
+pub faulted : (x : Refusal) (w : Why) (t i u j : ℕ) → x ≡ refusal w t i → t ≡ u → i ≡ j → ◌≡◌ {A = Checked} (Err x) (Err (refusal w u j))
+faulted x w t i u j e f g = cc
 
 -- what a test says of numbers that equal its own
 module _ (a b v w : ℕ) (e : v ≡ a) (f : w ≡ b) where
@@ -152,13 +157,13 @@ module _ (f : Format) (ts : ℕ → List ℕ) (n i k j last : ℕ) (d : last ≡
   unfolding row_reasons
   before_13 = past_2 (row_reasons f ts) (past_1 (row_reasons f ts) (passed_none (row_reasons f ts)) (found_none f (asked Outside (ts (table_count f))) ts k j last o d m)) w
 
-  pub ill_stop : (r : Checked) → n < last → r ≡ Fault 13 (table_number f n) i → r ≡ checked (row_reasons f ts)
+  pub ill_stop : (x : Refusal) → n < last → x ≡ refusal why.IllFormed (table_number f n) i → Err x ≡ checked (row_reasons f ts)
   unfolding row_reasons
-  ill_stop r l e =
-      check_stop 2 (row_reasons f ts) r before_13 (second-there f (outside (length (ts (table_count f)))) (ill (ts (table_count f))) ts n i k j last d h o m l)
-      (faulted r 13 (table_number f n) i _ _ e (second-named f (outside (length (ts (table_count f)))) (ill (ts (table_count f))) ts n i k j last d h o m) (second-row f (outside (length (ts (table_count f)))) (ill (ts (table_count f))) ts n i k j last d h o m l))
+  ill_stop x l e =
+      check_stop 2 (row_reasons f ts) (Err x) before_13 (second-there f (outside (length (ts (table_count f)))) (ill (ts (table_count f))) ts n i k j last d h o m l)
+      (faulted x why.IllFormed (table_number f n) i _ _ e (second-named f (outside (length (ts (table_count f)))) (ill (ts (table_count f))) ts n i k j last d h o m) (second-row f (outside (length (ts (table_count f)))) (ill (ts (table_count f))) ts n i k j last d h o m l))
 
-  pub ill-past : (r : Checked) → last ≤ n → r ≡ Clean → r ≡ checked (row_reasons f ts)
+  pub ill-past : (r : Checked) → last ≤ n → r ≡ Ok tt → r ≡ checked (row_reasons f ts)
   unfolding row_reasons
   ill-past r l e = rows-past f ts r (past_3 (row_reasons f ts) before_13 (none-second f (outside (length (ts (table_count f)))) (ill (ts (table_count f))) ts n i last d h l)) e
 

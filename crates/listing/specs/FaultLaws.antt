@@ -10,7 +10,7 @@ use Rattle.octets.specs.SearchLaws.{Seeking, cursor_more, first-agree, any-agree
 use Rattle.octets.specs.Octets.{le32}
 use Rattle.octets.specs.Texts.{text_of, text_at, name_at, outside}
 use Rattle.octets.specs.declared.Name.{Name}
-use Rattle.octets.specs.declared.Text.{Text}
+use Rattle.octets.specs.Texts.{Text}
 use Rattle.utf8.specs.MarkLaws.{Clear}
 use Rattle.listing.specs.Formats.{table_count, table_number, row_in, base_in, texts_in, null_from, null_end}
 use Rattle.listing.specs.Listing.{rows_as}

@@ -14,7 +14,7 @@ use Rattle.octets.specs.Octets.{part}
 use Rattle.octets.specs.Search.{any}
 use Rattle.octets.proofs.SearchLaws.{none-at}
 use Rattle.octets.specs.Texts.{outside}
-use Rattle.octets.specs.declared.Text.{Text}
+use Rattle.octets.specs.Texts.{Text}
 use Rattle.octets.specs.Gather.{gather}
 use Rattle.listing.specs.Formats.{row, most, metadata_row, metadata_most, edition, header_size, longest, table_count, row_in, most_in}
 use Rattle.listing.specs.Listing.{version, total, count, offset, start, table_in, rows_as}

@@ -1,7 +1,8 @@
 -- The formats of a listing, by their numbers: what the header has, and what each table has. This is all in which they differ, but for reason 8 (Refusals).
 -- Tables are numbered from 1, rows from 0; there is no table 0, and past the last table stand zeros.
-use Rattle.std.specs.Prelude.{ℕ, ◌+◌, [], ◌∷◌, get_or}
+use Rattle.std.specs.Prelude.{ℕ, ◌+◌, ◌≡◌, [], ◌∷◌, get_or}
 use Rattle.listing.specs.declared.Format.{Format}
+use Rattle.listing.specs.declared.Shape.{Shape}
 use Rattle.listing.specs.declared.Format.TheVariants.{Edition1, Metadata}
 
 -- ---- the listing of document 01, edition 1
@@ -93,3 +94,15 @@ null_from Metadata k = metadata_null_from k
 abbrev pub null_end : Format → ℕ → ℕ
 null_end Edition1 k = null_count k
 null_end Metadata k = metadata_null_end k
+
+-- all of these as one value
+pub record ShapeOf (f : Format) (k : ℕ) (x : Shape) : Type 0 where
+  pub row : x.row ≡ row_in f k
+  pub most : x.most ≡ most_in f k
+  pub base : x.base ≡ base_in f k
+  pub texts : x.texts ≡ texts_in f k
+  pub null_from : x.null_from ≡ null_from f k
+  pub null_end : x.null_end ≡ null_end f k
+
+abbrev pub shape_in : Format → ℕ → Shape
+shape_in f k = record { row = row_in f k; most = most_in f k; base = base_in f k; texts = texts_in f k; null_from = null_from f k; null_end = null_end f k }

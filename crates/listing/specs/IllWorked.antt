@@ -1,5 +1,5 @@
 -- "Both sides of each line" for 13: names, rows, and the reason that they give with its place, as one table with a single statement.
-use Rattle.std.specs.Prelude.{ℕ, ◌≡◌, refl, List, [], ◌∷◌, ◌++◌, map, cond, eqb}
+use Rattle.std.specs.Prelude.{ℕ, ◌≡◌, refl, List, [], ◌∷◌, ◌++◌, map, cond, eqb, Ok}
 use Rattle.octets.specs.Octets.{le32, le64, part}
 use Rattle.octets.specs.Search.{first, any}
 use Rattle.octets.specs.Texts.{text_at}
@@ -7,7 +7,6 @@ use Rattle.utf8.specs.Utf8.{in_range, table37, size, well_formed}
 use Rattle.listing.specs.Listing.{row, rows_as, layout}
 use Rattle.listing.specs.Refusals.{text_base, text_count, null_count, faulty_text, faulty_row, lowest_faulty_row, faulty_table, bad_contents, row_reasons, decide, number_of, table_of, row_of}
 use Rattle.listing.specs.declared.Format.TheVariants.{Edition1}
-use Rattle.listing.specs.declared.Outcome.TheVariants.{Accepted}
 
 -- a text's two numbers, below 256, and an i64 of 0
 abbrev at : ℕ → ℕ → List ℕ
@@ -34,7 +33,7 @@ abbrev tables : List ℕ → List ℕ → List ℕ → List ℕ → ℕ → List
 tables c t e names k = cond (eqb k 2) c (cond (eqb k 5) t (cond (eqb k 6) e (cond (eqb k 7) names [])))
 
 abbrev answer : (ℕ → List ℕ) → List ℕ
-answer ts = let o = decide (row_reasons Edition1 ts) (Accepted (layout [])) in number_of o ∷ table_of o ∷ row_of o ∷ []
+answer ts = let o = decide (row_reasons Edition1 ts) (Ok (layout [])) in number_of o ∷ table_of o ∷ row_of o ∷ []
 
 abbrev lines : List (List ℕ × List ℕ)
 lines =

@@ -1,5 +1,5 @@
 -- The laws of any list of reasons, whatever the answer is made of: each reason is given exactly when its fault is there and no earlier one is.
-use Rattle.std.specs.Prelude.{ℕ, zero, suc, ◌<◌, ◌≤◌, ◌≡◌, refl, List, [], ◌∷◌, ◌++◌, Bool, true, false, cond, not, ◌&&◌, ◌⊎◌, ◌↔◌, eqb, length, drop, get_or}
+use Rattle.std.specs.Prelude.{ℕ, zero, suc, ◌<◌, ◌≤◌, ◌≡◌, refl, List, [], ◌∷◌, ◌++◌, Bool, true, false, cond, not, ◌&&◌, ◌⊎◌, ◌↔◌, eqb, length, drop, get_or, Ok, Err}
 use Rattle.std.proofs.Math.Path.{sym, ap}
 use Rattle.std.proofs.Common.{◌∙◌, subst, inl, inr, ⊎_elim, le_of_suc-le-suc, eq-or-lt_of_le, not-suc-le-zero, le_antisymm, lt_of_not-le, arith, eqb-true}
 use Rattle.std.proofs.lemmas.Bool.{false≢true, not-false}
@@ -7,9 +7,8 @@ use Rattle.std.proofs.Math.Bool.{and-eq-true_iff}
 use Rattle.std.proofs.Math.Decide.{dec_le}
 use Rattle.octets.specs.Search.{first, any}
 use Rattle.octets.proofs.SearchLaws.{none-at}
-use Rattle.listing.specs.Refusals.{Reason, decide_by, checked}
-use Rattle.listing.specs.declared.Checked.{Checked}
-use Rattle.listing.specs.declared.Checked.TheVariants.{Clean, Fault}
+use Rattle.listing.specs.Refusals.{Reason, Checked, number, refusal, decide_by, checked}
+use Rattle.listing.specs.declared.Refusal.{Refusal}
 
 -- reason k of a list is there, counted from 0
 abbrev pub there_at : List Reason → ℕ → Bool
@@ -20,13 +19,13 @@ there_at (x ∷ xs) (suc k) = there_at xs k
 -- its number, 0 past the last
 abbrev pub number_at : List Reason → ℕ → ℕ
 number_at [] k = 0
-number_at (x ∷ xs) zero = x.number
+number_at (x ∷ xs) zero = number x.why
 number_at (x ∷ xs) (suc k) = number_at xs k
 
 -- the answer that it gives
-abbrev pub answer_by : {A : Type 0} → (ℕ → ℕ → ℕ → A) → List Reason → ℕ → A → A
+abbrev pub answer_by : {A : Type 0} → (Refusal → A) → List Reason → ℕ → A → A
 answer_by refuse [] k o = o
-answer_by refuse (x ∷ xs) zero o = refuse x.number x.at_table x.at_row
+answer_by refuse (x ∷ xs) zero o = refuse (refusal x.why x.at_table x.at_row)
 answer_by refuse (x ∷ xs) (suc k) o = answer_by refuse xs k o
 
 -- none of the first k is there
@@ -115,17 +114,17 @@ free-both (x ∷ xs) ys f g (suc i) = free-both xs ys (λ j. f (suc j)) g i
 
 -- ---- the answer
 -- of one kind, turned into another
-pub decide-turned : {A B : Type 0} (refuse : ℕ → ℕ → ℕ → A) (turn : ℕ → ℕ → ℕ → B) (f : A → B) → ((n t r : ℕ) → f (refuse n t r) ≡ turn n t r)
+pub decide-turned : {A B : Type 0} (refuse : Refusal → A) (turn : Refusal → B) (f : A → B) → ((e : Refusal) → f (refuse e) ≡ turn e)
     → (xs : List Reason) (o : A) → f (decide_by refuse xs o) ≡ decide_by turn xs (f o)
 decide-turned refuse turn f h [] o = refl
 decide-turned refuse turn f h (x ∷ xs) o = by x.there (decide-turned refuse turn f h xs o)
   where
     by : (b : Bool) → f (decide_by refuse xs o) ≡ decide_by turn xs (f o)
-        → f (cond b (refuse x.number x.at_table x.at_row) (decide_by refuse xs o)) ≡ cond b (turn x.number x.at_table x.at_row) (decide_by turn xs (f o))
-    by true e = h x.number x.at_table x.at_row
+        → f (cond b (refuse (refusal x.why x.at_table x.at_row)) (decide_by refuse xs o)) ≡ cond b (turn (refusal x.why x.at_table x.at_row)) (decide_by turn xs (f o))
+    by true e = h (refusal x.why x.at_table x.at_row)
     by false e = e
 
-module _ {A : Type 0} (refuse : ℕ → ℕ → ℕ → A) where
+module _ {A : Type 0} (refuse : Refusal → A) where
   -- past reasons that are not there, the others decide
   pub decide-past : (xs : List Reason) (o : A) (k : ℕ) → Passed xs k → decide_by refuse xs o ≡ decide_by refuse (drop k xs) o
   decide-past xs o zero h = refl
@@ -149,26 +148,26 @@ module _ {A : Type 0} (refuse : ℕ → ℕ → ℕ → A) where
   -- of two runs the first decides, and then the second
   pub decide-both : (xs ys : List Reason) (o : A) → decide_by refuse (xs ++ ys) o ≡ decide_by refuse xs (decide_by refuse ys o)
   decide-both [] ys o = refl
-  decide-both (x ∷ xs) ys o = ap (cond x.there (refuse x.number x.at_table x.at_row)) (decide-both xs ys o)
+  decide-both (x ∷ xs) ys o = ap (cond x.there (refuse (refusal x.why x.at_table x.at_row))) (decide-both xs ys o)
 
   -- what a check of them has said
   told : A → Checked → A
-  told o Clean = o
-  told o (Fault n t r) = refuse n t r
+  told o (Ok tt) = o
+  told o (Err e) = refuse e
 
-  pub decide_fault : (xs : List Reason) (o : A) (n t r : ℕ) → checked xs ≡ Fault n t r → decide_by refuse xs o ≡ refuse n t r
+  pub decide_fault : (xs : List Reason) (o : A) (r : Refusal) → checked xs ≡ Err r → decide_by refuse xs o ≡ refuse r
   unfolding checked told
-  decide_fault xs o n t r e = sym (decide-turned Fault refuse (told o) (λ n t r. refl) xs Clean) ∙ ap (told o) e
+  decide_fault xs o r e = sym (decide-turned Err refuse (told o) (λ e. refl) xs (Ok tt)) ∙ ap (told o) e
 
-  pub decide-clean : (xs : List Reason) (o : A) → checked xs ≡ Clean → decide_by refuse xs o ≡ o
+  pub decide-clean : (xs : List Reason) (o : A) → checked xs ≡ Ok tt → decide_by refuse xs o ≡ o
   unfolding checked told
-  decide-clean xs o e = sym (decide-turned Fault refuse (told o) (λ n t r. refl) xs Clean) ∙ ap (told o) e
+  decide-clean xs o e = sym (decide-turned Err refuse (told o) (λ e. refl) xs (Ok tt)) ∙ ap (told o) e
 
 -- ---- its number
-module _ {A : Type 0} (refuse : ℕ → ℕ → ℕ → A) (num : A → ℕ) (says : (n t r : ℕ) → num (refuse n t r) ≡ n) where
+module _ {A : Type 0} (refuse : Refusal → A) (num : A → ℕ) (says : (e : Refusal) → num (refuse e) ≡ number e.why) where
   number_of : (xs : List Reason) (o : A) (k : ℕ) → there_at xs k ≡ true → num (answer_by refuse xs k o) ≡ number_at xs k
   number_of [] o k e = absurd (false≢true e)
-  number_of (x ∷ xs) o zero e = says x.number x.at_table x.at_row
+  number_of (x ∷ xs) o zero e = says (refusal x.why x.at_table x.at_row)
   number_of (x ∷ xs) o (suc k) e = number_of xs o k e
 
   given-number : (xs : List Reason) (o : A) (k : ℕ) → Given xs k → num (decide_by refuse xs o) ≡ number_at xs k
@@ -203,7 +202,7 @@ distinct ns = not (any (λ k. not (eqb (place_in ns (get_or ns k 0)) k)) (length
 
 abbrev pub numbers_of : List Reason → List ℕ
 numbers_of [] = []
-numbers_of (x ∷ xs) = x.number ∷ numbers_of xs
+numbers_of (x ∷ xs) = number x.why ∷ numbers_of xs
 
 numbers-length : (xs : List Reason) → length (numbers_of xs) ≡ length xs
 numbers-length [] = refl
@@ -233,7 +232,7 @@ apart_by xs e = record {
     not-true false h = refl
 
 -- and then each of the reasons is given exactly when its fault is there and no earlier one is
-pub given-exactly : {A : Type 0} (refuse : ℕ → ℕ → ℕ → A) (num : A → ℕ) (says : (n t r : ℕ) → num (refuse n t r) ≡ n)
+pub given-exactly : {A : Type 0} (refuse : Refusal → A) (num : A → ℕ) (says : (e : Refusal) → num (refuse e) ≡ number e.why)
     (xs : List Reason) (place : ℕ → ℕ) (o : A) (k : ℕ) → Apart xs place → num o ≡ 0 → k < length xs → (num (decide_by refuse xs o) ≡ number_at xs k) ↔ Given xs k
 given-exactly refuse num says xs place o k a z l = (λ e. here (exactly.0 e), λ g. exactly.1 (k, g, refl))
   where
@@ -250,7 +249,7 @@ given-exactly refuse num says xs place o k a z l = (λ e. here (exactly.0 e), λ
         subst (λ (i : ℕ). Given xs i) q g.1
 
 -- and where no number is given, none of them is there
-pub none-given : {A : Type 0} (refuse : ℕ → ℕ → ℕ → A) (num : A → ℕ) (says : (n t r : ℕ) → num (refuse n t r) ≡ n)
+pub none-given : {A : Type 0} (refuse : Refusal → A) (num : A → ℕ) (says : (e : Refusal) → num (refuse e) ≡ number e.why)
     (xs : List Reason) (place : ℕ → ℕ) (o : A) → Apart xs place → num (decide_by refuse xs o) ≡ 0 → Free xs
 none-given refuse num says xs place o a e = by (given_or_none xs)
   where
@@ -262,10 +261,10 @@ none-given refuse num says xs place o a e = by (given_or_none xs)
     by (inr f) = f
 
 -- ---- whether it is a refusal
-module _ {A : Type 0} (refuse : ℕ → ℕ → ℕ → A) (good : A → Bool) (says : (n t r : ℕ) → good (refuse n t r) ≡ false) where
+module _ {A : Type 0} (refuse : Refusal → A) (good : A → Bool) (says : (e : Refusal) → good (refuse e) ≡ false) where
   refuses : (xs : List Reason) (o : A) (k : ℕ) → there_at xs k ≡ true → good (answer_by refuse xs k o) ≡ false
   refuses [] o k e = absurd (false≢true e)
-  refuses (x ∷ xs) o zero e = says x.number x.at_table x.at_row
+  refuses (x ∷ xs) o zero e = says (refusal x.why x.at_table x.at_row)
   refuses (x ∷ xs) o (suc k) e = refuses xs o k e
 
   -- it is none exactly where no reason is there

@@ -25,13 +25,14 @@ pub fn cut_in<'a>(f: Format, listing: &'a [u8]) -> [&'a [u8]; TABLE_COUNT]
 }
 
 // The seven of edition 1.
+#[tactic(auto, unfolding(crate::specs::Listing::tables_of, crate::specs::Listing::tables_in, crate::specs::Listing::table))]
 pub fn cut<'a>(listing: &'a [u8]) -> [&'a [u8]; TABLE_COUNT]
     ensures { map (λ x. x.now) result ≡ tables_of listing.now }
 {
     cut_in(Format::Edition1, listing)
 }
 
-// The table at a place.
+// The table at a place, as `octets::slice_of` has it of any array: the public name of it for this one.
 pub fn slice_of<'a>(tables: [&'a [u8]; TABLE_COUNT], k: usize) -> &'a [u8]
     requires { k < 7 }
     ensures { result.now ≡ nth (map (λ x. x.now) tables.entry) k }

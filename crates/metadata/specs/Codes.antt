@@ -1,7 +1,6 @@
 -- The eight codes with their tables, and the rule of each.
-use Rattle.std.specs.Prelude.{ℕ, List, [], ◌∷◌, cond, eqb, get_or}
-use Rattle.rules.specs.declared.Judgment.{Judgment}
-use Rattle.rules.specs.declared.Judgment.TheVariants.{Clean}
+use Rattle.rules.specs.Judgments.{Judgment}
+use Rattle.std.specs.Prelude.{ℕ, List, [], ◌∷◌, cond, eqb, get_or, None}
 use Rattle.metadata.specs.Rows.{Notebook}
 use Rattle.metadata.specs.Rules.{of945, of965, of975, of985, of995, of1005, of1015, of1025}
 
@@ -31,4 +30,4 @@ judged p code i =
     (cond (eqb code 1005) (of1005 (p.links.row i))
     (cond (eqb code 1015) (of1015 p.notes (p.links.row i))
     (cond (eqb code 1025) (of1025 p.notes (p.links.row i))
-    Clean)))))))
+    None)))))))

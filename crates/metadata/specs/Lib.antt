@@ -3,6 +3,7 @@ pub mod Tables
 pub mod Rules
 pub mod Codes
 pub mod Prepared
+pub mod PreparedLaws
 pub mod Refusals
 pub mod RefusalLaws
 pub mod MetadataLaws

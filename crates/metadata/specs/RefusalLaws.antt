@@ -1,12 +1,11 @@
 -- The laws of the reasons of a tile listing with its sibling: each is given exactly when its fault is there and no earlier one is.
-use Rattle.std.specs.Prelude.{ℕ, ◌<◌, ◌≡◌, refl, List, [], ◌∷◌, ◌++◌, true, false, ◌↔◌}
+use Rattle.std.specs.Prelude.{ℕ, ◌<◌, ◌≡◌, refl, List, [], ◌∷◌, ◌++◌, true, false, ◌↔◌, Ok, Err}
 use Rattle.listing.specs.Listing.{layout}
 use Rattle.listing.specs.Refusals.{Reason, header_reasons, row_reasons, reasons_in, outcome, number_of, is_accepted}
 use Rattle.listing.specs.ReasonLaws.{number_at, numbers_of, answer_by, Free, Given}
 use Rattle.listing.specs.RefusalLaws.{reasons}
 use Rattle.listing.proofs.FurtherLaws.{further_refused, further_exactly, further_place, further_accepted, further_listing, further_free}
 use Rattle.listing.specs.declared.Format.TheVariants.{Metadata}
-use Rattle.listing.specs.declared.Outcome.TheVariants.{Accepted, Refused}
 use Rattle.metadata.specs.Refusals.{metadata_outcome}
 
 abbrev pub all_reasons : List ℕ → List ℕ → List Reason
@@ -29,7 +28,7 @@ module _ (s m : List ℕ) where
   refused-exactly = further_exactly s (reasons_in Metadata m)
 
   -- and then with its place
-  pub refused-place : (k : ℕ) → Given (all_reasons s m) k → metadata_outcome s m ≡ answer_by Refused (all_reasons s m) k (Accepted (layout s))
+  pub refused-place : (k : ℕ) → Given (all_reasons s m) k → metadata_outcome s m ≡ answer_by Err (all_reasons s m) k (Ok (layout s))
   unfolding metadata_outcome
   refused-place = further_place s (reasons_in Metadata m)
 

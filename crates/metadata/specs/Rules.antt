@@ -1,5 +1,5 @@
 -- The rules of 2026-05, "by Req 94 and 96 to 102" of 000, Annex F.8. "Codes are the number times ten plus five, partner none".
-use Rattle.std.specs.Prelude.{ℕ, List, [], ◌∷◌, Bool, true, false, cond, not, ℤ}
+use Rattle.std.specs.Prelude.{ℕ, List, [], ◌∷◌, Bool, true, false, cond, not, ℤ, None, Some}
 use Rattle.octets.specs.Numbers.{eq_z}
 use Rattle.octets.specs.Search.{any}
 use Rattle.octets.specs.Slices.{nth}
@@ -7,10 +7,8 @@ use Rattle.octets.specs.Texts.{Nullable, There, Null, same}
 use Rattle.spelling.specs.Quoted.{quoted}
 use Rattle.spelling.specs.Dates.{is_date}
 use Rattle.pack.specs.Rows.{Rows, Content}
-use Rattle.rules.specs.Judgments.{none, fault_if, unless_some}
+use Rattle.rules.specs.Judgments.{none, fault_if, unless_some, Judgment}
 use Rattle.rules.specs.Contents.{content_named}
-use Rattle.rules.specs.declared.Judgment.{Judgment}
-use Rattle.rules.specs.declared.Judgment.TheVariants.{Clean, Hit}
 use Rattle.metadata.specs.Rows.{Note, Link}
 use Rattle.metadata.specs.declared.Scope.{Scope}
 use Rattle.metadata.specs.declared.Scope.TheVariants as scope
@@ -79,7 +77,7 @@ wants_no_table scope.Other = false
 
 abbrev pub in_contents : Rows Content → Nullable (List ℕ) → Judgment
 in_contents cs (There x) = unless_some (content_named x) cs
-in_contents cs Null = Hit none
+in_contents cs Null = Some none
 
 unfoldable pub of975 : Rows Content → Link → Judgment
 of975 cs l = cond (wants_no_table (scope_of l.scope)) (fault_if (not (is_null l.table))) (in_contents cs l.table)
@@ -118,8 +116,8 @@ of1015 ns l = unless_some (has_id l.file_id) ns
 
 -- 1025, Req 102: md_parent_id, where it is present, is the id of a note, and not md_file_id
 abbrev pub wrong_parent : Rows Note → ℤ → Nullable ℤ → Judgment
-wrong_parent ns file (There parent) = cond (eq_z parent file) (Hit none) (unless_some (has_id parent) ns)
-wrong_parent ns file Null = Clean
+wrong_parent ns file (There parent) = cond (eq_z parent file) (Some none) (unless_some (has_id parent) ns)
+wrong_parent ns file Null = None
 
 unfoldable pub of1025 : Rows Note → Link → Judgment
 of1025 ns l = wrong_parent ns l.file_id l.parent_id

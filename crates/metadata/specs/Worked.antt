@@ -1,5 +1,5 @@
 -- Both sides of each line of 2026-05: what the rules say of notes and links that are written out, and what a sibling listing's rows are refused for, as two tables with a single statement each.
-use Rattle.std.specs.Prelude.{ℕ, suc, ◌≡◌, refl, List, [], ◌∷◌, ◌++◌, map, cond, eqb, ℤ, pos}
+use Rattle.std.specs.Prelude.{ℕ, suc, ◌≡◌, refl, List, [], ◌∷◌, ◌++◌, map, cond, eqb, ℤ, pos, None, Some, Ok, Err}
 use Rattle.octets.specs.Octets.{le32, le64, part}
 use Rattle.octets.specs.Search.{first, any}
 use Rattle.octets.specs.Slices.{nth}
@@ -10,24 +10,21 @@ use Rattle.spelling.specs.Quoted.{quoted}
 use Rattle.spelling.specs.Dates.{form, fits, misfit, two_digits, four_digits, leap, month_lengths, common_length, leap_february, month_length, in_calendar, on_clock, is_date}
 use Rattle.listing.specs.Formats.{metadata_row, metadata_base, metadata_texts, metadata_null_from, metadata_null_end}
 use Rattle.listing.specs.Listing.{rows_as}
-use Rattle.listing.specs.Refusals.{faulty_text, faulty_row, lowest_faulty_row, faulty_table, bad_link, row_reasons, checked}
-use Rattle.listing.specs.declared.Checked.{Checked}
-use Rattle.listing.specs.declared.Checked.TheVariants.{Clean, Fault}
+use Rattle.listing.specs.Refusals.{faulty_text, faulty_row, lowest_faulty_row, faulty_table, bad_link, row_reasons, Checked, refusal, checked}
+use Rattle.listing.specs.declared.Why.TheVariants as why
 use Rattle.listing.specs.declared.Format.TheVariants.{Metadata}
 use Rattle.pack.specs.Rows.{Rows, Content}
-use Rattle.rules.specs.Judgments.{none}
+use Rattle.rules.specs.Judgments.{none, Judgment}
 use Rattle.rules.specs.Contents.{content_named}
-use Rattle.rules.specs.declared.Judgment.{Judgment}
-use Rattle.rules.specs.declared.Judgment.TheVariants as judgment
 use Rattle.metadata.specs.Rows.{Note, Link}
 use Rattle.metadata.specs.Rules.{note_scopes, is_note_scope, scope_of, has_id, of945, of965, of975, of985, of995, of1005, of1015, of1025}
 
 -- ---- the rules
 abbrev good : Judgment
-good = judgment.Clean
+good = None
 
 abbrev bad : Judgment
-bad = judgment.Hit none
+bad = Some none
 
 -- one contents row, "farm", and the notes 1 and 2
 abbrev contents : Rows Content
@@ -120,25 +117,25 @@ said ns ls names = checked (row_reasons Metadata (λ k. cond (eqb k 1) ns (cond 
 abbrev refusals : List (Checked × Checked)
 refusals =
     -- NULL for table_name and column_name of table 12 alone
-    (said (note_with empty) (link_with empty no_text no_text empty 0 0 0 0) [], Clean)
-    ∷ (said (note_with no_text) [] [], Fault 7 11 0)
-    ∷ (said [] (link_with no_text empty empty empty 0 0 0 0) [], Fault 7 12 0)
-    ∷ (said [] (link_with empty empty empty no_text 0 0 0 0) [], Fault 7 12 0)
+    (said (note_with empty) (link_with empty no_text no_text empty 0 0 0 0) [], Ok tt)
+    ∷ (said (note_with no_text) [] [], Err (refusal why.Outside 11 0))
+    ∷ (said [] (link_with no_text empty empty empty 0 0 0 0) [], Err (refusal why.Outside 12 0))
+    ∷ (said [] (link_with empty empty empty no_text 0 0 0 0) [], Err (refusal why.Outside 12 0))
     -- a text outside; the lowest table, then the lowest row
-    ∷ (said (note_with (at 0 1)) [] (0x61 ∷ []), Clean)
-    ∷ (said (note_with empty ++ note_with (at 1 1)) (link_with (at 1 1) empty empty empty 0 0 0 0) (0x61 ∷ []), Fault 7 11 1)
+    ∷ (said (note_with (at 0 1)) [] (0x61 ∷ []), Ok tt)
+    ∷ (said (note_with empty ++ note_with (at 1 1)) (link_with (at 1 1) empty empty empty 0 0 0 0) (0x61 ∷ []), Err (refusal why.Outside 11 1))
     -- flags above 3, spare not 0, an absent number not 0
-    ∷ (said [] (link_with empty empty empty empty 0 0 3 0) [], Clean)
-    ∷ (said [] (link_with empty empty empty empty 0 0 4 0) [], Fault 8 12 0)
-    ∷ (said [] (link_with empty empty empty empty 0 0 0 1) [], Fault 8 12 0)
-    ∷ (said [] (link_with empty empty empty empty 5 0 1 0) [], Clean)
-    ∷ (said [] (link_with empty empty empty empty 5 0 2 0) [], Fault 8 12 0)
-    ∷ (said [] (link_with empty empty empty empty 0 5 2 0) [], Clean)
-    ∷ (said [] (link_with empty empty empty empty 0 5 1 0) [], Fault 8 12 0)
+    ∷ (said [] (link_with empty empty empty empty 0 0 3 0) [], Ok tt)
+    ∷ (said [] (link_with empty empty empty empty 0 0 4 0) [], Err (refusal why.Flags 12 0))
+    ∷ (said [] (link_with empty empty empty empty 0 0 0 1) [], Err (refusal why.Flags 12 0))
+    ∷ (said [] (link_with empty empty empty empty 5 0 1 0) [], Ok tt)
+    ∷ (said [] (link_with empty empty empty empty 5 0 2 0) [], Err (refusal why.Flags 12 0))
+    ∷ (said [] (link_with empty empty empty empty 0 5 2 0) [], Ok tt)
+    ∷ (said [] (link_with empty empty empty empty 0 5 1 0) [], Err (refusal why.Flags 12 0))
     -- all of 7, then all of 8, then all of 13
-    ∷ (said (note_with (at 0 1)) [] (0xFF ∷ []), Fault 13 11 0)
-    ∷ (said (note_with (at 0 1)) (link_with empty empty empty empty 0 0 4 0) (0xFF ∷ []), Fault 8 12 0)
-    ∷ (said (note_with (at 0 1)) (link_with empty empty empty (at 0 2) 0 0 4 0) (0xFF ∷ []), Fault 7 12 0)
+    ∷ (said (note_with (at 0 1)) [] (0xFF ∷ []), Err (refusal why.IllFormed 11 0))
+    ∷ (said (note_with (at 0 1)) (link_with empty empty empty empty 0 0 4 0) (0xFF ∷ []), Err (refusal why.Flags 12 0))
+    ∷ (said (note_with (at 0 1)) (link_with empty empty empty (at 0 2) 0 0 4 0) (0xFF ∷ []), Err (refusal why.Outside 12 0))
     ∷ []
 
 pub refusals-worked : map (λ l. l.0) refusals ≡ map (λ l. l.1) refusals

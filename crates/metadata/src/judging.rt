@@ -1,21 +1,22 @@
 // The rules on notes and links as the code reads them. The names stand in what a row means also where a rule does not ask for them.
 ghost use Rattle.std.specs.Prelude.{◌≡◌, ◌/◌, length};
 ghost use Rattle.octets.specs.Numbers.{signed};
-ghost use Rattle.octets.specs.Search.{first};
 ghost use Rattle.octets.specs.Texts.{reads};
 ghost use Rattle.rules.specs.Judgments.{unless_some};
 ghost use Rattle.pack.specs.Tables.{contents_of};
 ghost use Rattle.index.specs.declared.Kind.TheVariants.{ContentName};
 ghost use Rattle.index.specs.Keys.{Indexes};
 ghost use Rattle.metadata.specs.Tables.{note_of, link_of, notes_of};
-ghost use Rattle.metadata.specs.Rules.{of945, of965, of975, of985, of995, of1005, of1015, of1025, has_id, is_null, wrongly, scope_of, wants_no_table, in_contents};
+ghost use Rattle.metadata.specs.Rules.{of945, of965, of975, of985, of995, of1005, of1015, of1025, has_id, scope_of, in_contents};
 
 use crate::{LinkRow, NoteRow, Scope, note_at, scopes};
+use index::Index;
 use judge::{fault_if, unless_found};
-use listing::{ContentsTable, Cursor, NoteTable};
+use listing::{ContentsTable, NoteTable};
 use octets::Text;
 use rules::{Judgment, NONE};
 
+#[tactic(auto, unfolding(crate::specs::Tables::note_of, crate::specs::Rules::of945))]
 pub fn of_945(names: &[u8], n: NoteRow) -> Judgment
     ensures { result ≡ of945 (note_of names.now n) }
 {
@@ -23,127 +24,64 @@ pub fn of_945(names: &[u8], n: NoteRow) -> Judgment
 }
 
 // What a link is about.
+#[tactic(auto, unfolding(crate::specs::Tables::link_of))]
 fn scope_of(names: &[u8], l: LinkRow) -> Scope
     ensures { result ≡ scope_of (link_of names.now l).scope }
 {
-    scopes::scope_of(octets::spelled(names, l.scope))
+    Scope::from(octets::spelled(names, l.scope))
 }
 
+#[tactic(auto, unfolding(crate::specs::Rules::of965))]
 pub fn of_965(names: &[u8], l: LinkRow) -> Judgment
     ensures { result ≡ of965 (link_of names.now l) }
 {
-    fault_if(scopes::is_other(scope_of(names, l)))
+    fault_if(scope_of(names, l).is_other())
 }
 
-// A text is NULL.
-fn is_null(names: &[u8], t: Text) -> bool
-    ensures { result ≡ is_null (reads names.now t) }
-{
-    let Text::Octets { .. } = t else {
-        return true;
-    };
-    false
-}
-
-// A value is NULL and is not to be, or the other way round.
-fn is_wrongly(shall: bool, null: bool) -> bool
-    ensures { result ≡ wrongly shall null }
-{
-    if shall { !null } else { null }
-}
-
+// A finding where the column is NULL and is not to be, or the other way round.
 pub fn of_985(names: &[u8], l: LinkRow) -> Judgment
     ensures { result ≡ of985 (link_of names.now l) }
 {
-    let shall = scopes::wants_no_column(scope_of(names, l));
-    let column = l.column;
-    fault_if(is_wrongly(shall, is_null(names, column)))
+    fault_if(scope_of(names, l).wants_no_column() != l.column.is_none())
 }
 
 // A finding where no contents row has the name; NULL names none.
-fn in_contents(
-    contents: &[u8],
-    names: &[u8],
-    work: &[u8],
-    heads: usize,
-    others: &[u8],
-    t: Text,
-) -> Judgment
-    requires { Indexes ContentName contents.now names.now work.now heads (length contents.now / 40) }
+fn in_contents(contents: &[u8], names: &[u8], index: Index, others: &[u8], t: Text) -> Judgment
+    requires { Indexes ContentName contents.now names.now index.work.now index.heads (length contents.now / 40) }
     ensures { result ≡ in_contents (contents_of contents.now names.now) (reads others.now t) }
 {
-    let Text::Octets { start, len } = t else {
+    let Some(name) = t else {
         return fault_if(true);
     };
-    let x = octets::part_of(others, start as usize, len as usize);
+    let x = octets::spelled(others, name);
     let n = contents.len() / (ContentsTable::ROW as usize);
-    unless_found(index::find_content(contents, names, work, heads, x), n)
+    let k = index.find_content(contents, names, x);
+    unless_found(k, n)
 }
 
-// The link is about the whole pack, and names no table.
-fn wants_no_table(names: &[u8], l: LinkRow) -> bool
-    ensures { result ≡ wants_no_table (scope_of (link_of names.now l).scope) }
-{
-    scopes::wants_no_table(scope_of(names, l))
-}
-
-// The lent octets hold an index of the contents by name.
-pub fn of_975(
-    contents: &[u8],
-    names: &[u8],
-    work: &[u8],
-    heads: usize,
-    others: &[u8],
-    l: LinkRow,
-) -> Judgment
-    requires { Indexes ContentName contents.now names.now work.now heads (length contents.now / 40) }
+// The lent octets hold an index of the contents by name. A link that is about the whole pack names no table.
+pub fn of_975(contents: &[u8], names: &[u8], index: Index, others: &[u8], l: LinkRow) -> Judgment
+    requires { Indexes ContentName contents.now names.now index.work.now index.heads (length contents.now / 40) }
     ensures { result ≡ of975 (contents_of contents.now names.now) (link_of others.now l) }
 {
-    let table = l.table;
-    if wants_no_table(others, l) {
-        return fault_if(!is_null(others, table));
+    if scope_of(others, l).wants_no_table() {
+        fault_if(l.table.is_some())
+    } else {
+        in_contents(contents, names, index, others, l.table)
     }
-    in_contents(contents, names, work, heads, others, table)
-}
-
-// The row id is absent.
-fn lacks_row(names: &[u8], l: LinkRow) -> bool
-    ensures { result ≡ is_null (link_of names.now l).row_id }
-{
-    l.flags % 2 == 0
 }
 
 pub fn of_995(names: &[u8], l: LinkRow) -> Judgment
     ensures { result ≡ of995 (link_of names.now l) }
 {
-    let shall = scopes::wants_no_row(scope_of(names, l));
-    fault_if(is_wrongly(shall, lacks_row(names, l)))
+    fault_if(scope_of(names, l).wants_no_row() != l.row_id.is_none())
 }
 
+#[tactic(auto, unfolding(crate::specs::Tables::link_of, crate::specs::Rules::of1005))]
 pub fn of_1005(names: &[u8], l: LinkRow) -> Judgment
     ensures { result ≡ of1005 (link_of names.now l) }
 {
     fault_if(!spelling::dates::is_date(octets::spelled(names, l.timestamp)))
-}
-
-fn has_id(names: &[u8], id: u64, n: NoteRow) -> bool
-    ensures { result ≡ has_id (signed id) (note_of names.now n) }
-{
-    octets::is_equal(id, n.id)
-}
-
-// The lowest of the first n notes with the id, or n.
-fn first_id(notes: &[u8], names: &[u8], id: u64, n: usize) -> usize
-    ensures { result ≡ first (λ j. has_id (signed id) ((notes_of notes.now names.now).row j)) n }
-{
-    let mut at = Cursor::new(n);
-    while at.row < at.end {
-        if has_id(names, id, note_at(notes, at.row)) {
-            return at.row;
-        }
-        at = at.next();
-    }
-    at.end
 }
 
 // A finding where no note has the id.
@@ -151,23 +89,24 @@ fn unless_id(notes: &[u8], names: &[u8], id: u64) -> Judgment
     ensures { result ≡ unless_some (has_id (signed id)) (notes_of notes.now names.now) }
 {
     let n = notes.len() / (NoteTable::ROW as usize);
-    unless_found(first_id(notes, names, id, n), n)
+    let first = octets::first(0..n, |k| octets::is_equal(id, note_at(notes, k).id));
+    unless_found(first, n)
 }
 
+#[tactic(auto, unfolding(crate::specs::Tables::link_of, crate::specs::Rules::of1015))]
 pub fn of_1015(notes: &[u8], names: &[u8], l: LinkRow) -> Judgment
     ensures { result ≡ of1015 (notes_of notes.now names.now) (link_of names.now l) }
 {
     unless_id(notes, names, l.file_id)
 }
 
+#[tactic(auto, unfolding(crate::specs::Tables::link_of, crate::specs::Rules::of1025))]
 pub fn of_1025(notes: &[u8], names: &[u8], l: LinkRow) -> Judgment
     ensures { result ≡ of1025 (notes_of notes.now names.now) (link_of names.now l) }
 {
-    if l.flags < 2 {
-        return Judgment::Clean;
+    let parent = l.parent_id?;
+    if octets::is_equal(parent, l.file_id) {
+        return Some(NONE);
     }
-    if octets::is_equal(l.parent_id, l.file_id) {
-        return Judgment::Hit(NONE);
-    }
-    unless_id(notes, names, l.parent_id)
+    unless_id(notes, names, parent)
 }

@@ -4,42 +4,38 @@
 ghost use Rattle.std.specs.Prelude.{◌≡◌, map};
 ghost use Rattle.metadata.specs.Tables.{note_row, link_row, notebook_in};
 ghost use Rattle.metadata.specs.Codes.{judged};
-ghost use Rattle.metadata.specs.Prepared.{Prepared};
 
-use index::Kind;
-use listing::{LinkTable, NoteTable};
 use octets::{Name, Text};
 use rules::Judgment;
 
 mod codes;
 mod judging;
 mod read;
+mod ready;
 mod scopes;
 mod tables;
 
 pub use codes::{CODE_COUNT, code_at, table_at};
-pub use tables::{
-    CONTENTS, LINKS, NAMES, NOTE_NAMES, NOTES, SLICE_COUNT, accept, cut, rows_in, slice_of,
-};
+pub use ready::Ready;
+pub use tables::{CONTENTS, LINKS, NAMES, NOTE_NAMES, NOTES, Notebook, SLICE_COUNT, accept, cut};
 
 // 11, gpkg_metadata: a note.
-#[derive(Clone, Copy)]
+#[derive(Clone, Copy, Default)]
 pub struct NoteRow {
     pub id: u64,
     pub scope: Name,
 }
 
-// 12, gpkg_metadata_reference: a link from a note to what it is about. Flags say whether the row id (1) and the parent (2) are present.
-#[derive(Clone, Copy)]
+// 12, gpkg_metadata_reference: a link from a note to what it is about.
+#[derive(Clone, Copy, Default)]
 pub struct LinkRow {
     pub scope: Name,
     pub table: Text,
     pub column: Text,
     pub timestamp: Name,
-    pub row_id: u64,
+    pub row_id: Option<u64>,
     pub file_id: u64,
-    pub parent_id: u64,
-    pub flags: u32,
+    pub parent_id: Option<u64>,
 }
 
 // What a link is about.
@@ -53,67 +49,44 @@ pub enum Scope {
     Other,
 }
 
-// ---- row i of a table; past the last, a blank
+// ---- row i of a table; past the last, a blank. One for each table, since `note_row` and `link_row` are what clauses cite; `pack::row_at` has the body.
 
+#[tactic(auto, unfolding(crate::specs::Tables::note_row))]
 pub fn note_at(notes: &[u8], i: usize) -> NoteRow
     ensures { result ≡ note_row notes.now i }
 {
-    if i < notes.len() / (NoteTable::ROW as usize) {
-        read::note_row(notes, (NoteTable::ROW as usize) * i)
-    } else {
-        read::no_note()
-    }
+    pack::row_at(notes, i)
 }
 
+#[tactic(auto, unfolding(crate::specs::Tables::link_row))]
 pub fn link_at(links: &[u8], i: usize) -> LinkRow
     ensures { result ≡ link_row links.now i }
 {
-    if i < links.len() / (LinkTable::ROW as usize) {
-        read::link_row(links, (LinkTable::ROW as usize) * i)
-    } else {
-        read::no_link()
-    }
+    pack::row_at(links, i)
 }
 
 // ---- the rule of a code
 
-// Makes the lent octets ready: an index of the contents by name, for 975. It answers how many heads the index has; without room, it is the plain search.
-pub fn prepare(tables: [&[u8]; SLICE_COUNT], work: &mut [u8]) -> usize
-    ensures { Prepared (map (λ x. x.now) tables.entry) work.new result }
+// What the rule of a code says of row i of the code's table. Codes are numbers: what C gives, and what `judged` takes.
+#[tactic(auto, unfolding(crate::specs::Codes::judged))]
+pub fn judge(ready: Ready, code: u32, i: usize) -> Judgment
+    ensures { result ≡ judged (notebook_in (map (λ x. x.now) ready.entry.tables.slices)) code i }
 {
-    index::index_all(
-        slice_of(tables, CONTENTS),
-        slice_of(tables, NAMES),
-        work,
-        Kind::ContentName,
-    )
-}
-
-// What the rule of a code says of row i of the code's table.
-pub fn judge(
-    tables: [&[u8]; SLICE_COUNT],
-    work: &[u8],
-    heads: usize,
-    code: u32,
-    i: usize,
-) -> Judgment
-    requires { Prepared (map (λ x. x.now) tables) work.now heads }
-    ensures { result ≡ judged (notebook_in (map (λ x. x.now) tables.entry)) code i }
-{
-    let notes = slice_of(tables, NOTES);
-    let links = slice_of(tables, LINKS);
-    let others = slice_of(tables, NOTE_NAMES);
-    let contents = slice_of(tables, CONTENTS);
-    let names = slice_of(tables, NAMES);
+    let tables = ready.tables;
+    let notes = tables.slice_of(NOTES);
+    let links = tables.slice_of(LINKS);
+    let others = tables.slice_of(NOTE_NAMES);
+    let contents = tables.slice_of(CONTENTS);
+    let names = tables.slice_of(NAMES);
     match code {
         945 => judging::of_945(others, note_at(notes, i)),
         965 => judging::of_965(others, link_at(links, i)),
-        975 => judging::of_975(contents, names, work, heads, others, link_at(links, i)),
+        975 => judging::of_975(contents, names, ready.index, others, link_at(links, i)),
         985 => judging::of_985(others, link_at(links, i)),
         995 => judging::of_995(others, link_at(links, i)),
         1005 => judging::of_1005(others, link_at(links, i)),
         1015 => judging::of_1015(notes, others, link_at(links, i)),
         1025 => judging::of_1025(notes, others, link_at(links, i)),
-        _ => Judgment::Clean,
+        _ => None,
     }
 }

@@ -1,58 +1,64 @@
-// The row whose octets stand at a place, field by field: whoever calls knows that it is there. And what stands past the last row, which no rule looks at.
-ghost use Rattle.std.specs.Prelude.{◌≡◌, ◌+◌, ◌≤◌, length};
+// The rows of the two tables: how each is read, field by field, where its octets stand, and what stands past the last one.
+ghost use Rattle.std.specs.Prelude.{◌≡◌, refl};
 ghost use Rattle.metadata.specs.Tables.{note_at, link_at, no_note, no_link};
 
 use crate::{LinkRow, NoteRow};
-use octets::{Name, Text};
+use listing::{LinkTable, NoteTable};
+use pack::Row;
 
-const NO_NAME: Name = Name { start: 0, len: 0 };
+impl Row for NoteRow {
+    ghost size = { 16 };
 
-pub fn note_row(s: &[u8], at: usize) -> NoteRow
-    requires { at + 16 ≤ length s.now }
-    ensures { result ≡ note_at s.now at }
-{
-    NoteRow {
-        id: octets::long(s, at),
-        scope: octets::name_at(s, at + 8),
+    ghost read_as = { note_at };
+
+    ghost blank = { no_note };
+
+    ghost some = { refl };
+
+    fn size() -> usize {
+        NoteTable::ROW as usize
+    }
+
+    fn blank() -> Self {
+        Self::default()
+    }
+
+    fn read(s: &[u8], at: usize) -> Self {
+        NoteRow {
+            id: octets::long(s, at),
+            scope: octets::name_at(s, at + 8),
+        }
     }
 }
 
-pub fn no_note() -> NoteRow
-    ensures { result ≡ no_note }
-{
-    NoteRow {
-        id: 0,
-        scope: NO_NAME,
-    }
-}
+impl Row for LinkRow {
+    ghost size = { 64 };
 
-pub fn link_row(s: &[u8], at: usize) -> LinkRow
-    requires { at + 64 ≤ length s.now }
-    ensures { result ≡ link_at s.now at }
-{
-    LinkRow {
-        scope: octets::name_at(s, at),
-        table: octets::text_at(s, at + 8),
-        column: octets::text_at(s, at + 16),
-        timestamp: octets::name_at(s, at + 24),
-        row_id: octets::long(s, at + 32),
-        file_id: octets::long(s, at + 40),
-        parent_id: octets::long(s, at + 48),
-        flags: octets::word(s, at + 56),
-    }
-}
+    ghost read_as = { link_at };
 
-pub fn no_link() -> LinkRow
-    ensures { result ≡ no_link }
-{
-    LinkRow {
-        scope: NO_NAME,
-        table: Text::Null,
-        column: Text::Null,
-        timestamp: NO_NAME,
-        row_id: 0,
-        file_id: 0,
-        parent_id: 0,
-        flags: 0,
+    ghost blank = { no_link };
+
+    ghost some = { refl };
+
+    fn size() -> usize {
+        LinkTable::ROW as usize
+    }
+
+    fn blank() -> Self {
+        Self::default()
+    }
+
+    // Flags say whether the row id (1) and the parent (2) are present.
+    fn read(s: &[u8], at: usize) -> Self {
+        let flags = octets::word(s, at + 56);
+        LinkRow {
+            scope: octets::name_at(s, at),
+            table: octets::text_at(s, at + 8),
+            column: octets::text_at(s, at + 16),
+            timestamp: octets::name_at(s, at + 24),
+            row_id: (flags % 2 != 0).then_some(octets::long(s, at + 32)),
+            file_id: octets::long(s, at + 40),
+            parent_id: (2 <= flags).then_some(octets::long(s, at + 48)),
+        }
     }
 }

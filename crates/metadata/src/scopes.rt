@@ -1,5 +1,5 @@
 // The words of scopes: the names of Table 21 for notes, five words for links.
-ghost use Rattle.std.specs.Prelude.{◌≡◌, ◌<◌};
+ghost use Rattle.std.specs.Prelude.{◌≡◌};
 ghost use Rattle.octets.specs.Search.{any};
 ghost use Rattle.metadata.specs.Rules.{is_note_scope, scope_of, is_other, wants_no_table, wants_no_column, wants_no_row};
 
@@ -7,122 +7,79 @@ use crate::Scope;
 use octets::equal;
 
 // The names of Table 21.
-const NOTE_SCOPES: usize = 19;
-
-// A text is name k of them.
-fn is_note_scope(x: &[u8], k: usize) -> bool
-    requires { k < 19 }
-    ensures { result ≡ is_note_scope x.now k }
-{
-    match k {
-        0 => equal(x, b"undefined"),
-        1 => equal(x, b"fieldSession"),
-        2 => equal(x, b"collectionSession"),
-        3 => equal(x, b"series"),
-        4 => equal(x, b"dataset"),
-        5 => equal(x, b"featureType"),
-        6 => equal(x, b"feature"),
-        7 => equal(x, b"attributeType"),
-        8 => equal(x, b"attribute"),
-        9 => equal(x, b"tile"),
-        10 => equal(x, b"model"),
-        11 => equal(x, b"catalog"),
-        12 => equal(x, b"schema"),
-        13 => equal(x, b"taxonomy"),
-        14 => equal(x, b"software"),
-        15 => equal(x, b"service"),
-        16 => equal(x, b"collectionHardware"),
-        17 => equal(x, b"nonGeographicDataset"),
-        18 => equal(x, b"dimensionGroup"),
-        _ => false,
-    }
-}
+const NOTE_SCOPES: [&[u8]; 19] = [
+    b"undefined",
+    b"fieldSession",
+    b"collectionSession",
+    b"series",
+    b"dataset",
+    b"featureType",
+    b"feature",
+    b"attributeType",
+    b"attribute",
+    b"tile",
+    b"model",
+    b"catalog",
+    b"schema",
+    b"taxonomy",
+    b"software",
+    b"service",
+    b"collectionHardware",
+    b"nonGeographicDataset",
+    b"dimensionGroup",
+];
 
 // A text is one of them.
 pub fn has_note_scope(x: &[u8]) -> bool
     ensures { result ≡ any (is_note_scope x.now) 19 }
 {
-    let mut k = 0;
-    while k < NOTE_SCOPES {
-        if is_note_scope(x, k) {
-            return true;
+    NOTE_SCOPES.iter().any(|name| equal(x, name))
+}
+
+// By its word. A match on octets would have a goal for each octet of each word.
+impl From<&[u8]> for Scope {
+    ghost from_gives = { λ x s. s ≡ scope_of x.now };
+
+    fn from(x: &[u8]) -> Scope {
+        if equal(x, b"geopackage") {
+            Scope::Geopackage
+        } else if equal(x, b"table") {
+            Scope::Table
+        } else if equal(x, b"column") {
+            Scope::Column
+        } else if equal(x, b"row") {
+            Scope::Row
+        } else if equal(x, b"row/col") {
+            Scope::RowColumn
+        } else {
+            Scope::Other
         }
-        k += 1;
-    }
-    false
-}
-
-// What a link is about, by its word.
-pub fn scope_of(x: &[u8]) -> Scope
-    ensures { result ≡ scope_of x.now }
-{
-    if equal(x, b"geopackage") {
-        return Scope::Geopackage;
-    }
-    if equal(x, b"table") {
-        return Scope::Table;
-    }
-    if equal(x, b"column") {
-        return Scope::Column;
-    }
-    if equal(x, b"row") {
-        return Scope::Row;
-    }
-    if equal(x, b"row/col") {
-        return Scope::RowColumn;
-    }
-    Scope::Other
-}
-
-pub fn is_other(scope: Scope) -> bool
-    ensures { result ≡ is_other scope }
-{
-    match scope {
-        Scope::Geopackage => false,
-        Scope::Table => false,
-        Scope::Column => false,
-        Scope::Row => false,
-        Scope::RowColumn => false,
-        Scope::Other => true,
     }
 }
 
-// Whose table_name, column_name and row_id_value are to be NULL.
-pub fn wants_no_table(scope: Scope) -> bool
-    ensures { result ≡ wants_no_table scope }
-{
-    match scope {
-        Scope::Geopackage => true,
-        Scope::Table => false,
-        Scope::Column => false,
-        Scope::Row => false,
-        Scope::RowColumn => false,
-        Scope::Other => false,
+impl Scope {
+    pub fn is_other(self) -> bool
+        ensures { result ≡ is_other self }
+    {
+        matches!(self, Scope::Other)
     }
-}
 
-pub fn wants_no_column(scope: Scope) -> bool
-    ensures { result ≡ wants_no_column scope }
-{
-    match scope {
-        Scope::Geopackage => true,
-        Scope::Table => true,
-        Scope::Column => false,
-        Scope::Row => true,
-        Scope::RowColumn => false,
-        Scope::Other => false,
+    // Whose table_name, column_name and row_id_value are to be NULL.
+    pub fn wants_no_table(self) -> bool
+        ensures { result ≡ wants_no_table self }
+    {
+        matches!(self, Scope::Geopackage)
     }
-}
 
-pub fn wants_no_row(scope: Scope) -> bool
-    ensures { result ≡ wants_no_row scope }
-{
-    match scope {
-        Scope::Geopackage => true,
-        Scope::Table => true,
-        Scope::Column => true,
-        Scope::Row => false,
-        Scope::RowColumn => false,
-        Scope::Other => false,
+    pub fn wants_no_column(self) -> bool
+        ensures { result ≡ wants_no_column self }
+    {
+        matches!(self, Scope::Geopackage | Scope::Table | Scope::Row)
+    }
+
+    pub fn wants_no_row(self) -> bool
+        ensures { result ≡ wants_no_row self }
+    {
+        matches!(self, Scope::Geopackage | Scope::Table | Scope::Column)
     }
 }

@@ -1,14 +1,14 @@
 -- What a search finds: the theorems that rest on the order in which `first` asks (specs/Search.antt).
-use Prim.Native.Nat.{ℕ, zero, suc, ◌<◌, zero-le}
+use Prim.Native.Nat.{ℕ, zero, suc, ◌≤◌, ◌<◌, zero-le}
 use Rattle.std.specs.Prelude.{◌≡◌, Bool, cond, ◌||◌}
 use Rattle.std.proofs.Math.Path.{refl, subst}
 use Rattle.std.proofs.Common.{sym, ap, ◌∙◌, ⊎_elim, le_refl, le_of_suc-le-suc, eq-or-lt_of_le, not-suc-le-zero, arith, rules}
 use Rattle.std.proofs.Math.Bool.{true, false}
-use Rattle.std.proofs.lemmas.Bool.{false≢true}
+use Rattle.std.proofs.lemmas.Bool.{false≢true, cases_order}
 use Rattle.std.proofs.Math.Nat.{not-suc-le_self}
 use borrow.Author.Tests.{lt-ltb, le-ltb, ltb-true, ltb-false}
 use Rattle.std.proofs.Math.Dec.{ltb}
-use Rattle.octets.specs.Search.{first, any}
+use Rattle.octets.specs.Search.{first, any, Sought, SoughtAny}
 use Rattle.octets.specs.SearchLaws.{Seeking, Lowest, seek-start, seek-more, seek-end, any-end}
 
 module _ (p : ℕ → Bool) where
@@ -93,3 +93,25 @@ module _ (p q : ℕ → Bool) (n : ℕ) where
       by true b e f = let s = some p e in any_some (λ i. p i || q i) n (first p n) s.0 (simp s.1)
       by false true e f = let s = some q f in any_some (λ i. p i || q i) n (first q n) s.0 (ap (λ (x : Bool). p (first q n) || x) s.1 ∙ right (p (first q n)))
       by false false e f = any_none (λ i. p i || q i) n (λ i l. let u : p i ≡ false = none-at p n e i l in let v : q i ≡ false = none-at q n f i l in simp (u, v))
+
+-- ---- a search by a test of the code, which says of each number what the definition does
+module _ (p : ℕ → Bool) (says : ℕ → Bool → Type 0) (start n : ℕ)
+    (none : first p start ≡ start) (agrees : (k : ℕ) (b : Bool) → start ≤ k → k < n → says k b → b ≡ p k) where
+  not_above : (r : ℕ) → Sought says start n r → first p n < r → ⊥
+  not_above r s l =
+      let found : p (first p n) ≡ true = (first-lowest p n).here (omega (arith, s.most)) in
+      let passed : start ≤ first p n → ⊥ = λ h. false≢true (agrees (first p n) false h (omega (arith, s.most)) (s.below (first p n) h l) ∙ found) in
+      let early : first p n < start → ⊥ = λ h. false≢true (sym ((first-lowest p start).below (first p n) (omega (arith, none))) ∙ found) in
+      ⊎_elim (λ q. passed (omega arith)) (λ h. ⊎_elim (λ l. passed (omega arith)) early h) (cases_order start (first p n))
+
+  not_below : (r : ℕ) → Sought says start n r → r < first p n → ⊥
+  not_below r s l =
+      let inside : r < n = omega (arith, (first-lowest p n).most) in
+      false≢true (sym ((first-lowest p n).below r l) ∙ sym (agrees r true (s.from inside) inside (s.here inside)))
+
+  pub first_by : (r : ℕ) → Sought says start n r → r ≡ first p n
+  first_by r s = ⊎_elim (λ q. q) (λ h. ⊎_elim (λ l. absurd (not_below r s l)) (λ l. absurd (not_above r s l)) h) (cases_order r (first p n))
+
+  pub any_by : (b : Bool) → SoughtAny says start n b → b ≡ any p n
+  unfolding any
+  any_by b s = s.found ∙ ap (λ (r : ℕ). ltb r n) (first_by s.lowest s.sought)

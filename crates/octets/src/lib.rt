@@ -1,54 +1,48 @@
 // Numbers and texts in octets.
 #![tactic(auto)]
 
-ghost use Rattle.std.specs.Prelude.{◌≡◌, ◌+◌, ◌≤◌, ◌<◌, min, length};
+ghost use Rattle.std.specs.Prelude.{◌≡◌, ℕ, map, ◌+◌, ◌≤◌, ◌<◌, length};
 ghost use Rattle.std.proofs.lemmas.List.Edits.{sets};
 ghost use Rattle.std.proofs.Math.IntN.{suc_ℤ};
 ghost use Rattle.std.specs.Int.Signed.{lt_z};
 ghost use Rattle.octets.specs.Octets.{le32, le64, part, word};
+ghost use Rattle.octets.specs.Slices.{nth};
 ghost use Rattle.octets.specs.Numbers.{signed, eq_z, biased};
 ghost use Rattle.octets.specs.Texts.{same, text_of, text_at, outside, name_at, spell};
 ghost use Rattle.octets.specs.TextLaws.{Alike};
+ghost use Rattle.octets.specs.Search.{Sought, SoughtAny};
+
+use std::ops::Range;
 
 // A text that is never NULL: where it starts in the names, and how long it is.
-#[derive(Clone, Copy)]
+#[derive(Clone, Copy, Default)]
 pub struct Name {
     pub start: u32,
     pub len: u32,
 }
 
-// A text that may be NULL.
-#[derive(Clone, Copy)]
-pub enum Text {
-    Octets { start: u32, len: u32 },
-    Null,
-}
+// A text that may be NULL: it is octets, or it is NULL.
+pub type Text = Option<Name>;
 
 // ---- numbers in octets
-
-fn wide(x: u8) -> u32
-    ensures { (result ≡ x) × (result < 256) }
-{
-    x as u32
-}
 
 // The u32 at a place that is there.
 pub fn word(s: &[u8], at: usize) -> u32
     requires { at + 4 ≤ length s.now }
     ensures { result ≡ le32 s.now at }
 {
-    wide(s[at]) + 256 * wide(s[at + 1]) + 65536 * wide(s[at + 2]) + 16777216 * wide(s[at + 3])
+    u32::from_le_bytes([s[at], s[at + 1], s[at + 2], s[at + 3]])
 }
 
-// The u64 at a place that is there.
+// The u64 at a place that is there: two words, of which a compiler makes one load; `from_le_bytes` of eight octets named one by one is no plainer.
 pub fn long(s: &[u8], at: usize) -> u64
     requires { at + 8 ≤ length s.now }
     ensures { result ≡ le64 s.now at }
 {
-    (word(s, at) as u64) + 4294967296 * (word(s, at + 4) as u64)
+    u64::from(word(s, at)) + 4294967296 * u64::from(word(s, at + 4))
 }
 
-// A number's lowest four octets put at a place that is there, the lowest first.
+// A number's lowest four octets put at a place that is there, the lowest first. By divisions: a cast to u32 wants a number that fits, and this is given any.
 pub fn put_word(w: &mut [u8], at: usize, x: usize)
     requires { at + 4 ≤ length w.old }
     ensures { w.new ≡ sets w.old at (word x) }
@@ -64,11 +58,7 @@ pub fn put_octets(out: &mut [u8], at: usize, octets: &[u8])
     requires { at + length octets.now ≤ length out.old }
     ensures { out.new ≡ sets out.old at octets.now }
 {
-    let mut i = 0;
-    while i < octets.len() {
-        out[at + i] = octets[i];
-        i += 1;
-    }
+    out[at..at + octets.len()].copy_from_slice(octets);
 }
 
 // The u32 at any place, 0 past the end.
@@ -97,38 +87,21 @@ pub fn part_of(s: &[u8], start: usize, len: usize) -> &[u8]
     &s[start..start + len]
 }
 
-// ---- texts
-
-// Whether two runs of octets, the same before start, are the same.
-fn equal_from(a: &[u8], b: &[u8], start: usize) -> bool
-    requires { Alike a.now b.now start }
-    ensures { result ≡ same a.now b.now }
+// The octets in a place of some slices.
+pub fn slice_of<'a>(slices: &[&'a [u8]], k: usize) -> &'a [u8]
+    requires { k < length slices.now }
+    ensures { result.now ≡ nth (map (λ x. x.now) slices.now) k }
 {
-    let mut i = start;
-    while i < a.len() {
-        if a[i] != b[i] {
-            return false;
-        }
-        i += 1;
-    }
-    true
+    slices[k]
 }
 
-// Whether two runs of octets are the same. Eight octets are one test.
+// ---- texts
+
+// Whether two runs of octets are the same.
 pub fn equal(a: &[u8], b: &[u8]) -> bool
     ensures { result ≡ same a.now b.now }
 {
-    if a.len() != b.len() {
-        return false;
-    }
-    let mut i = 0;
-    while i + 8 <= a.len() {
-        if long(a, i) != long(b, i) {
-            return false;
-        }
-        i += 8;
-    }
-    equal_from(a, b, i)
+    a == b
 }
 
 // What stands in the place of the start of a NULL text.
@@ -140,10 +113,10 @@ pub fn text_of(start: u32, len: u32) -> Text
 {
     if start == NULL_START {
         if len == 0 {
-            return Text::Null;
+            return None;
         }
     }
-    Text::Octets { start, len }
+    Some(Name { start, len })
 }
 
 // The text whose two numbers stand at a place.
@@ -158,10 +131,10 @@ pub fn text_at(s: &[u8], at: usize) -> Text
 pub fn is_outside(names: usize, nullable: bool, t: Text) -> bool
     ensures { result ≡ outside names nullable t }
 {
-    let Text::Octets { start, len } = t else {
+    let Some(name) = t else {
         return !nullable;
     };
-    names < (start as usize) + (len as usize)
+    names < (name.start as usize) + (name.len as usize)
 }
 
 // The name whose two numbers stand at a place.
@@ -182,7 +155,7 @@ pub fn spelled(names: &[u8], n: Name) -> &[u8]
     part_of(names, n.start as usize, n.len as usize)
 }
 
-// Whether two names have the same octets. One place has one text.
+// Whether two names have the same octets. One place has one text, told by its two numbers: what a derived `==` says of them would be taken apart again.
 pub fn same_name(names: &[u8], a: Name, b: Name) -> bool
     ensures { result ≡ same (spell names.now a) (spell names.now b) }
 {
@@ -201,34 +174,40 @@ pub fn is_name(names: &[u8], n: Name, octets: &[u8]) -> bool
     equal(spelled(names, n), octets)
 }
 
-// The lesser of two numbers.
-pub fn least(a: usize, b: usize) -> usize
-    ensures { result ≡ min a b }
+// ---- searches
+
+// The lowest number of a range of which a test says yes, or the range's end: a number and no None, since that is what `first` of specs/Search answers, of which the theorems speak.
+pub fn first<F: Fn(usize) -> bool>(range: Range<usize>, test: F) -> usize
+    requires { (k : ℕ) → range.start ≤ k → k < range.end → F.pre test k }
+    ensures { Sought (F.post test) range.start range.end result }
 {
-    if a < b { a } else { b }
+    for k in range.start..range.end {
+        if test(k) {
+            return k;
+        }
+    }
+    range.end
+}
+
+// Whether a test says yes of some number of a range.
+pub fn any<F: Fn(usize) -> bool>(range: Range<usize>, test: F) -> bool
+    requires { (k : ℕ) → range.start ≤ k → k < range.end → F.pre test k }
+    ensures { SoughtAny (F.post test) range.start range.end result }
+{
+    let end = range.end;
+    first(range, test) < end
 }
 
 // ---- numbers with a sign, by their patterns
-
-// The order of an i64 as that of a u64.
-fn bias(p: u64) -> u64
-    ensures { result ≡ biased p }
-{
-    if p < 9223372036854775808 {
-        p + 9223372036854775808
-    } else {
-        p - 9223372036854775808
-    }
-}
 
 // The i64 of pattern a is below that of pattern b.
 pub fn is_less(a: u64, b: u64) -> bool
     ensures { result ≡ lt_z (signed a) (signed b) }
 {
-    bias(a) < bias(b)
+    a.cast_signed() < b.cast_signed()
 }
 
-// The i64s of two patterns are equal.
+// The i64s of two patterns are equal: named, since callers cite `eq_z` of the signed numbers and no pattern.
 pub fn is_equal(a: u64, b: u64) -> bool
     ensures { result ≡ eq_z (signed a) (signed b) }
 {
@@ -239,10 +218,5 @@ pub fn is_equal(a: u64, b: u64) -> bool
 pub fn is_next(a: u64, b: u64) -> bool
     ensures { result ≡ eq_z (suc_ℤ (signed a)) (signed b) }
 {
-    let x = bias(a);
-    let y = bias(b);
-    if y == 0 {
-        return false;
-    }
-    x == y - 1
+    a.cast_signed().checked_add(1) == Some(b.cast_signed())
 }

@@ -5,23 +5,22 @@ ghost use Rattle.std.specs.Prelude.{◌≡◌};
 ghost use Rattle.pack.specs.Tables.{reference_row, contents_row, set_row, matrix_row, extension_row};
 
 use doubles::Extent;
-use listing::{ContentsTable, ExtensionTable, MatrixTable, ReferenceTable, SetTable};
 use octets::{Name, Text};
 
-mod blank;
 mod read;
+mod rows;
 mod tables;
 mod texts;
 mod tiles;
 
+pub use rows::{Row, row_at};
 pub use tables::{
     CONTENTS, EXTENSIONS, MATRICES, NAMES, REFERENCES, SETS, SLICE_COUNT, TILE_COLUMNS, TILE_ROWS,
-    TILES, cut, rows_in, slice_of, with_tiles,
+    TILES, Tables, cut, with_tiles,
 };
 pub use texts::{same_text, text_octets};
-pub use tiles::{tile_at, tile_count};
 
-#[derive(Clone, Copy)]
+#[derive(Clone, Copy, Default)]
 pub struct ReferenceRow {
     pub srs_id: u64,
     pub coordsys_id: u64,
@@ -29,23 +28,22 @@ pub struct ReferenceRow {
     pub definition: Name,
 }
 
-#[derive(Clone, Copy)]
+#[derive(Clone, Copy, Default)]
 pub struct ContentsRow {
     pub name: Name,
     pub data_type: Name,
     pub last_change: Name,
-    pub srs_id: u64,
-    pub flag: u32,
+    pub srs_id: Option<u64>,
 }
 
-#[derive(Clone, Copy)]
+#[derive(Clone, Copy, Default)]
 pub struct SetRow {
     pub name: Name,
     pub srs_id: u64,
     pub extent: Extent,
 }
 
-#[derive(Clone, Copy)]
+#[derive(Clone, Copy, Default)]
 pub struct MatrixRow {
     pub name: Name,
     pub zoom: u64,
@@ -57,7 +55,7 @@ pub struct MatrixRow {
     pub pixel_y: f64,
 }
 
-#[derive(Clone, Copy)]
+#[derive(Clone, Copy, Default)]
 pub struct TileRow {
     pub name: Name,
     pub zoom: u64,
@@ -65,7 +63,7 @@ pub struct TileRow {
     pub row: u64,
 }
 
-#[derive(Clone, Copy)]
+#[derive(Clone, Copy, Default)]
 pub struct ExtensionRow {
     pub table: Text,
     pub column: Text,
@@ -73,61 +71,41 @@ pub struct ExtensionRow {
     pub scope: Text,
 }
 
-// Where tiles stand: in the rows of table 5, or in four columns of signed 64-bit numbers.
+// Where tiles stand: in the rows of table 5, or in four columns of signed 64-bit numbers. An enum, since `tile_in` and `pack_in` take it.
 #[derive(Clone, Copy)]
 pub enum Form {
     Rows,
     Columns,
 }
 
-// ---- row i of a table; past the last, a blank
+// ---- row i of a table; past the last, a blank. One for each table, since `reference_row` to `extension_row` are what clauses above cite; `row_at` has the body.
 
 pub fn reference_at(references: &[u8], i: usize) -> ReferenceRow
     ensures { result ≡ reference_row references.now i }
 {
-    if i < references.len() / (ReferenceTable::ROW as usize) {
-        read::reference_row(references, (ReferenceTable::ROW as usize) * i)
-    } else {
-        blank::no_reference()
-    }
+    row_at(references, i)
 }
 
 pub fn contents_at(contents: &[u8], i: usize) -> ContentsRow
     ensures { result ≡ contents_row contents.now i }
 {
-    if i < contents.len() / (ContentsTable::ROW as usize) {
-        read::contents_row(contents, (ContentsTable::ROW as usize) * i)
-    } else {
-        blank::no_contents()
-    }
+    row_at(contents, i)
 }
 
 pub fn set_at(sets: &[u8], i: usize) -> SetRow
     ensures { result ≡ set_row sets.now i }
 {
-    if i < sets.len() / (SetTable::ROW as usize) {
-        read::set_row(sets, (SetTable::ROW as usize) * i)
-    } else {
-        blank::no_set()
-    }
+    row_at(sets, i)
 }
 
 pub fn matrix_at(matrices: &[u8], i: usize) -> MatrixRow
     ensures { result ≡ matrix_row matrices.now i }
 {
-    if i < matrices.len() / (MatrixTable::ROW as usize) {
-        read::matrix_row(matrices, (MatrixTable::ROW as usize) * i)
-    } else {
-        blank::no_matrix()
-    }
+    row_at(matrices, i)
 }
 
 pub fn extension_at(extensions: &[u8], i: usize) -> ExtensionRow
     ensures { result ≡ extension_row extensions.now i }
 {
-    if i < extensions.len() / (ExtensionTable::ROW as usize) {
-        read::extension_row(extensions, (ExtensionTable::ROW as usize) * i)
-    } else {
-        blank::no_extension()
-    }
+    row_at(extensions, i)
 }

@@ -1,10 +1,12 @@
 // The row whose octets stand at a place, field by field. Whoever calls knows that it is there: nothing is tested.
-ghost use Rattle.std.specs.Prelude.{◌≡◌, ◌+◌, ◌≤◌, length};
-ghost use Rattle.pack.specs.Tables.{double_at, reference_at, contents_at, extent_at, set_at, matrix_at, tile_at, extension_at};
+ghost use Rattle.std.specs.Prelude.{◌≡◌, refl, cond, eqb, ◌+◌, ◌≤◌, length};
+ghost use Rattle.pack.specs.Tables.{double_at, reference_at, contents_at, extent_at, set_at, matrix_at, tile_at, extension_at, no_reference, no_contents, no_set, no_matrix, no_tile, no_extension};
 ghost use Rattle.pack.specs.Columns.{name_of, entry_at};
 
+use crate::rows::Row;
 use crate::{ContentsRow, ExtensionRow, MatrixRow, ReferenceRow, SetRow, TileRow};
 use doubles::Extent;
+use listing::{ContentsTable, ExtensionTable, MatrixTable, ReferenceTable, SetTable, TileTable};
 use octets::Name;
 
 fn double_at(s: &[u8], at: usize) -> f64
@@ -14,28 +16,64 @@ fn double_at(s: &[u8], at: usize) -> f64
     doubles::double_of(octets::long(s, at))
 }
 
-pub fn reference_row(s: &[u8], at: usize) -> ReferenceRow
-    requires { at + 32 ≤ length s.now }
-    ensures { result ≡ reference_at s.now at }
+// A number, where its flag is 1.
+fn if_present(flag: u32, x: u64) -> Option<u64>
+    ensures { result ≡ cond (eqb flag 1) (Some x) None }
 {
-    ReferenceRow {
-        srs_id: octets::long(s, at),
-        coordsys_id: octets::long(s, at + 8),
-        organization: octets::name_at(s, at + 16),
-        definition: octets::name_at(s, at + 24),
+    (flag == 1).then_some(x)
+}
+
+impl Row for ReferenceRow {
+    ghost size = { 32 };
+
+    ghost read_as = { reference_at };
+
+    ghost blank = { no_reference };
+
+    ghost some = { refl };
+
+    fn size() -> usize {
+        ReferenceTable::ROW as usize
+    }
+
+    fn blank() -> Self {
+        Self::default()
+    }
+
+    fn read(s: &[u8], at: usize) -> Self {
+        ReferenceRow {
+            srs_id: octets::long(s, at),
+            coordsys_id: octets::long(s, at + 8),
+            organization: octets::name_at(s, at + 16),
+            definition: octets::name_at(s, at + 24),
+        }
     }
 }
 
-pub fn contents_row(s: &[u8], at: usize) -> ContentsRow
-    requires { at + 40 ≤ length s.now }
-    ensures { result ≡ contents_at s.now at }
-{
-    ContentsRow {
-        name: octets::name_at(s, at),
-        data_type: octets::name_at(s, at + 8),
-        last_change: octets::name_at(s, at + 16),
-        srs_id: octets::long(s, at + 24),
-        flag: octets::word(s, at + 32),
+impl Row for ContentsRow {
+    ghost size = { 40 };
+
+    ghost read_as = { contents_at };
+
+    ghost blank = { no_contents };
+
+    ghost some = { refl };
+
+    fn size() -> usize {
+        ContentsTable::ROW as usize
+    }
+
+    fn blank() -> Self {
+        Self::default()
+    }
+
+    fn read(s: &[u8], at: usize) -> Self {
+        ContentsRow {
+            name: octets::name_at(s, at),
+            data_type: octets::name_at(s, at + 8),
+            last_change: octets::name_at(s, at + 16),
+            srs_id: if_present(octets::word(s, at + 32), octets::long(s, at + 24)),
+        }
     }
 }
 
@@ -51,42 +89,87 @@ fn extent_at(s: &[u8], at: usize) -> Extent
     }
 }
 
-pub fn set_row(s: &[u8], at: usize) -> SetRow
-    requires { at + 48 ≤ length s.now }
-    ensures { result ≡ set_at s.now at }
-{
-    SetRow {
-        name: octets::name_at(s, at),
-        srs_id: octets::long(s, at + 8),
-        extent: extent_at(s, at + 16),
+impl Row for SetRow {
+    ghost size = { 48 };
+
+    ghost read_as = { set_at };
+
+    ghost blank = { no_set };
+
+    ghost some = { refl };
+
+    fn size() -> usize {
+        SetTable::ROW as usize
+    }
+
+    fn blank() -> Self {
+        Self::default()
+    }
+
+    fn read(s: &[u8], at: usize) -> Self {
+        SetRow {
+            name: octets::name_at(s, at),
+            srs_id: octets::long(s, at + 8),
+            extent: extent_at(s, at + 16),
+        }
     }
 }
 
-pub fn matrix_row(s: &[u8], at: usize) -> MatrixRow
-    requires { at + 64 ≤ length s.now }
-    ensures { result ≡ matrix_at s.now at }
-{
-    MatrixRow {
-        name: octets::name_at(s, at),
-        zoom: octets::long(s, at + 8),
-        width: octets::long(s, at + 16),
-        height: octets::long(s, at + 24),
-        tile_width: octets::long(s, at + 32),
-        tile_height: octets::long(s, at + 40),
-        pixel_x: double_at(s, at + 48),
-        pixel_y: double_at(s, at + 56),
+impl Row for MatrixRow {
+    ghost size = { 64 };
+
+    ghost read_as = { matrix_at };
+
+    ghost blank = { no_matrix };
+
+    ghost some = { refl };
+
+    fn size() -> usize {
+        MatrixTable::ROW as usize
+    }
+
+    fn blank() -> Self {
+        Self::default()
+    }
+
+    fn read(s: &[u8], at: usize) -> Self {
+        MatrixRow {
+            name: octets::name_at(s, at),
+            zoom: octets::long(s, at + 8),
+            width: octets::long(s, at + 16),
+            height: octets::long(s, at + 24),
+            tile_width: octets::long(s, at + 32),
+            tile_height: octets::long(s, at + 40),
+            pixel_x: double_at(s, at + 48),
+            pixel_y: double_at(s, at + 56),
+        }
     }
 }
 
-pub fn tile_row(s: &[u8], at: usize) -> TileRow
-    requires { at + 32 ≤ length s.now }
-    ensures { result ≡ tile_at s.now at }
-{
-    TileRow {
-        name: octets::name_at(s, at),
-        zoom: octets::long(s, at + 8),
-        column: octets::long(s, at + 16),
-        row: octets::long(s, at + 24),
+impl Row for TileRow {
+    ghost size = { 32 };
+
+    ghost read_as = { tile_at };
+
+    ghost blank = { no_tile };
+
+    ghost some = { refl };
+
+    fn size() -> usize {
+        TileTable::ROW as usize
+    }
+
+    fn blank() -> Self {
+        Self::default()
+    }
+
+    fn read(s: &[u8], at: usize) -> Self {
+        TileRow {
+            name: octets::name_at(s, at),
+            zoom: octets::long(s, at + 8),
+            column: octets::long(s, at + 16),
+            row: octets::long(s, at + 24),
+        }
     }
 }
 
@@ -100,7 +183,7 @@ fn name_of(first: u64) -> Name
     }
 }
 
-// The tile whose four numbers stand at one place of four columns.
+// The tile whose four numbers stand at one place of four columns. Four slices, since `entry_at` is defined of them; `Columns` has them as one value.
 pub fn tile_entry(firsts: &[u8], zooms: &[u8], columns: &[u8], rows: &[u8], at: usize) -> TileRow
     requires first_there { at + 8 ≤ length firsts.now }
     requires zoom_there { at + 8 ≤ length zooms.now }
@@ -116,14 +199,29 @@ pub fn tile_entry(firsts: &[u8], zooms: &[u8], columns: &[u8], rows: &[u8], at: 
     }
 }
 
-pub fn extension_row(s: &[u8], at: usize) -> ExtensionRow
-    requires { at + 32 ≤ length s.now }
-    ensures { result ≡ extension_at s.now at }
-{
-    ExtensionRow {
-        table: octets::text_at(s, at),
-        column: octets::text_at(s, at + 8),
-        name: octets::text_at(s, at + 16),
-        scope: octets::text_at(s, at + 24),
+impl Row for ExtensionRow {
+    ghost size = { 32 };
+
+    ghost read_as = { extension_at };
+
+    ghost blank = { no_extension };
+
+    ghost some = { refl };
+
+    fn size() -> usize {
+        ExtensionTable::ROW as usize
+    }
+
+    fn blank() -> Self {
+        Self::default()
+    }
+
+    fn read(s: &[u8], at: usize) -> Self {
+        ExtensionRow {
+            table: octets::text_at(s, at),
+            column: octets::text_at(s, at + 8),
+            name: octets::text_at(s, at + 16),
+            scope: octets::text_at(s, at + 24),
+        }
     }
 }

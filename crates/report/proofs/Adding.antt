@@ -1,4 +1,6 @@
 -- One finding, as the code adds it.
+use Rattle.rules.specs.Judgments.{Judgment}
+use Rattle.std.specs.Prelude.{None, Some}
 use Prim.Native.Nat.{ℕ, suc, ◌+◌, ◌*◌, ◌<◌, ◌≤◌}
 use mathlib.Core.Path.{◌≡◌, refl}
 use mathlib.Core.List.{List}
@@ -6,8 +8,6 @@ use native.Mathlib.Omega.{arith}
 use lib.Seq.{sets}
 use borrow.Author.Tests.{lt-ltb, le-ltb, eq-eqb, ne_eqb}
 use Rattle.octets.specs.Octets.{word}
-use Rattle.rules.specs.declared.Judgment.{Judgment}
-use Rattle.rules.specs.declared.Judgment.TheVariants.{Clean, Hit}
 use Rattle.findings.specs.Findings.{found}
 use Rattle.findings.specs.Words.{room}
 use Rattle.report.specs.Buffers.{finding_of, put_one, Added}
@@ -30,12 +30,12 @@ module _ (b : List ℕ) (n c i p : ℕ) where
 
 -- what a judgment adds
 module _ (c i : ℕ) (v : Judgment) (b b' : List ℕ) (t : Tally) where
-  pub added-clean : v ≡ Clean → Added (found c i v) b t b t
+  pub added-clean : v ≡ None → Added (found c i v) b t b t
   added-clean e = rw e (added_none b t)
 
-  pub added-first : (p : ℕ) → v ≡ Hit p → t.total ≡ 0 → b' ≡ put_one b t.total (finding_of c i p) → Added (found c i v) b t b' (record { total = 1; row = i })
+  pub added-first : (p : ℕ) → v ≡ Some p → t.total ≡ 0 → b' ≡ put_one b t.total (finding_of c i p) → Added (found c i v) b t b' (record { total = 1; row = i })
   added-first p e z q = rw e (record { count = rw z; row = simp (eq-eqb t.total 0 z); buffer = q })
 
-  pub added-later : (p : ℕ) → v ≡ Hit p → (t.total ≡ 0 → ⊥) → b' ≡ put_one b t.total (finding_of c i p)
+  pub added-later : (p : ℕ) → v ≡ Some p → (t.total ≡ 0 → ⊥) → b' ≡ put_one b t.total (finding_of c i p)
       → Added (found c i v) b t b' (record { total = t.total + 1; row = t.row })
   added-later p e z q = rw e (record { count = refl; row = simp (ne_eqb t.total 0 z); buffer = q })

@@ -1,38 +1,33 @@
--- Looking a code up in the constant table.
-use Prim.Native.Nat.{ℕ, ◌+◌, ◌<◌, ◌≤◌}
-use mathlib.Core.Path.{◌≡◌, refl, sym, ap, ◌∙◌}
-use mathlib.Core.List.{List}
-use native.Mathlib.Nat.{add-zero, le_antisymm}
-use native.Mathlib.Numerals.{add-one, add-one-le}
-use native.Mathlib.Omega.{arith}
-use lib.ListN.{length, get_or, drop}
-use lib.Seq.{drop-cons, drop-drop, get_or-drop}
-use borrow.Author.Tests.{eq-eqb, ne_eqb}
-use Rattle.rules.specs.Codes.{codes, tables, code_count, code_at, table_at, seek, table_of}
+-- Looking a code up in the constant table: where it is found, and where it is not.
+use Prim.Native.Nat.{ℕ, ◌<◌, ◌≤◌, zero-le}
+use Rattle.std.specs.Prelude.{◌≡◌, Bool, true, false, List, length, get_or}
+use Rattle.std.proofs.Common.{refl, sym, ap, ◌∙◌, arith}
+use Rattle.std.proofs.lemmas.Bool.{false≢true, eqb-false}
+use Rattle.std.proofs.Math.Dec.{eqb}
+use borrow.Author.Tests.{eqb-true, eq-eqb}
+use Rattle.octets.specs.Search.{Sought}
+use Rattle.rules.specs.Codes.{codes, tables, code_count, code_at, table_at, table_of}
+use Rattle.rules.specs.CodeLaws.{codes-listed, codes-sound, place-table, listed-place}
 
-hit : (ks ts : List ℕ) (c k : ℕ) → k < length ks → c ≡ get_or ks k 0 → seek (drop k ks) (drop k ts) c ≡ get_or ts k 0
-hit ks ts c k h e = rw (drop-cons ks k 0 h, eq-eqb c (get_or ks k 0) e, get_or-drop k ts 0 0, add-zero)
+module _ (c : ℕ) (says : ℕ → Bool → Type 0) (k : ℕ) (s : Sought says 0 code_count k) (agrees : (i : ℕ) (b : Bool) → i < code_count → says i b → b ≡ eqb (code_at i) c) where
+  at_code : k < code_count → code_at k ≡ c
+  at_code l = eqb-true (code_at k) c (sym (agrees k true l (s.here l)))
 
-miss : (ks ts : List ℕ) (c k : ℕ) → k < length ks → (c ≡ get_or ks k 0 → ⊥) → seek (drop k ks) (drop k ts) c ≡ seek (drop (k + 1) ks) (drop (k + 1) ts) c
-miss ks ts c k h e = rw (drop-cons ks k 0 h, ne_eqb c (get_or ks k 0) e, drop-drop 1 k ts, add-one)
+  pub found-table : k < code_count → table_at k ≡ table_of c
+  found-table l = sym (place-table k l) ∙ ap table_of (at_code l)
 
--- a code that is none of the first k
-pub record Sought (c k : ℕ) : Type 0 where
-  pub within : k ≤ code_count
-  pub left : table_of c ≡ seek (drop k codes) (drop k tables) c
+  pub found-listed : k < code_count → 0 < table_at k
+  unfolding table_of code_at
+  found-listed l =
+      let n : table_of c ≡ 0 → ⊥ = (codes-listed codes tables codes-sound c).1 (k, l, at_code l) in
+      omega (arith, n, found-table l)
 
-module _ (c : ℕ) where
-  pub sought_start : Sought c 0
-  unfolding table_of
-  sought_start = record { within = omega arith; left = refl }
-
-  pub sought_hit : (k d t : ℕ) → Sought c k → k < code_count → d ≡ code_at k → c ≡ d → t ≡ table_at k → t ≡ table_of c
-  unfolding code_at table_at
-  sought_hit k d t s l e f g = g ∙ sym (s.left ∙ hit codes tables c k l (f ∙ e))
-
-  pub sought_more : (k d : ℕ) → Sought c k → k < code_count → d ≡ code_at k → (c ≡ d → ⊥) → Sought c (k + 1)
-  unfolding code_at
-  sought_more k d s l e n = record { within = add-one-le l; left = s.left ∙ miss codes tables c k l (λ q. n (q ∙ sym e)) }
-
-  pub sought_end : (k : ℕ) → Sought c k → code_count ≤ k → 0 ≡ table_of c
-  sought_end k s l = sym (s.left ∙ ap (λ (j : ℕ). seek (drop j codes) (drop j tables) c) (le_antisymm s.within l))
+  pub not_listed : code_count ≤ k → table_of c ≡ 0
+  unfolding table_of code_at
+  not_listed h = by (eqb (table_of c) 0) refl
+    where
+      by : (b : Bool) → eqb (table_of c) 0 ≡ b → table_of c ≡ 0
+      by true e = eqb-true (table_of c) 0 e
+      by false e =
+          let q = listed-place c (eqb-false (table_of c) 0 e) in
+          absurd (false≢true (agrees q.place false q.within (s.below q.place zero-le (omega (arith, q.within))) ∙ eq-eqb (code_at q.place) c q.code))

@@ -1,24 +1,40 @@
 -- Words of an answer, one after the other.
-use Prim.Native.Nat.{ℕ, suc, ◌+◌}
-use mathlib.Core.Path.{◌≡◌}
-use mathlib.Core.List.{List, [], ◌∷◌}
+use Prim.Native.Nat.{ℕ, suc, ◌+◌, ◌*◌, ◌<◌}
+use mathlib.Core.Path.{◌≡◌, refl, sym, ap, ◌∙◌}
+use mathlib.Core.List.{List, [], ◌∷◌, ◌++◌, append_assoc, append-nil}
 use native.Mathlib.Omega.{arith}
-use lib.Seq.{sets}
+use lib.ListN.{length, take, get_or}
+use lib.Seq.{sets, take-suc}
+use Rattle.std.proofs.Common.{length-take, add-one}
+use Rattle.octets.specs.BufferLaws.{sets-append}
 use Rattle.octets.specs.Octets.{word}
+use Rattle.std.specs.Prelude.{Err}
+use Rattle.listing.specs.Refusals.{number}
+use Rattle.listing.specs.declared.Refusal.{Refusal}
+use Rattle.rules.specs.Judgments.{none}
 use Rattle.findings.specs.Words.{octets_of, ruling_words, located_words}
-use Rattle.findings.specs.declared.Ruling.{Ruling}
-use Rattle.findings.specs.declared.Located.{Located}
+use Rattle.findings.specs.Answers.{Verdict, Located}
 
-pub three : (b b₁ b₂ b₃ : List ℕ) (at x y z : ℕ) → b₁ ≡ sets b at (word x) → b₂ ≡ sets b₁ (at + 4) (word y) → b₃ ≡ sets b₂ (at + 8) (word z)
-    → b₃ ≡ sets b at (octets_of (x ∷ y ∷ z ∷ []))
-three b b₁ b₂ b₃ at x y z p q r =
-    let e4 : at + 4 ≡ suc (suc (suc (suc at))) = omega arith in
-    let e8 : at + 8 ≡ suc (suc (suc (suc (suc (suc (suc (suc at))))))) = omega arith in
-    rw (r, q, p, e4, e8)
+-- one word more behind those that are there
+more-octets : (ws vs : List ℕ) → octets_of (ws ++ vs) ≡ octets_of ws ++ octets_of vs
+more-octets [] vs = refl
+more-octets (w ∷ ws) vs = ap (λ (os : List ℕ). word w ++ os) (more-octets ws vs) ∙ sym (append_assoc (word w) (octets_of ws) (octets_of vs))
 
--- a case's words are those of its answer
-pub ruling-words : (v w : Ruling) (b b' : List ℕ) → v ≡ w → b' ≡ sets b 0 (octets_of (ruling_words w)) → b' ≡ sets b 0 (octets_of (ruling_words v))
-ruling-words v w b b' e q = rw e q
+octets-length : (ws : List ℕ) → length (octets_of ws) ≡ 4 * length ws
+octets-length [] = refl
+octets-length (w ∷ ws) = omega (arith, octets-length ws)
 
-pub located_words_lem : (v w : Located) (b b' : List ℕ) → v ≡ w → b' ≡ sets b 0 (octets_of (located_words w)) → b' ≡ sets b 0 (octets_of (located_words v))
-located_words_lem v w b b' e q = rw e q
+pub one_more : (b b₁ b₂ ws : List ℕ) (at k : ℕ) → b₁ ≡ sets b at (octets_of (take k ws)) → b₂ ≡ sets b₁ (at + 4 * k) (word (get_or ws k 0)) → k < length ws
+    → b₂ ≡ sets b at (octets_of (take (k + 1) ws))
+one_more b b₁ b₂ ws at k p q h =
+    let n : length (octets_of (take k ws)) ≡ 4 * k = octets-length (take k ws) ∙ simp length-take (omega arith) in
+    let e : octets_of (take (k + 1) ws) ≡ octets_of (take k ws) ++ word (get_or ws k 0) = rw (add-one, take-suc ws k 0 h, more-octets) (simp append-nil) in
+    q ∙ rw (e, sets-append (octets_of (take k ws)) (word (get_or ws k 0)) b at, n, p)
+
+-- the words of a refusal, by its number
+module _ (e : Refusal) (n : ℕ) (b b' : List ℕ) where
+  pub refused-ruling : (v : Verdict) → v ≡ Err e → n ≡ number e.why → b' ≡ sets b 0 (octets_of (3 ∷ none ∷ n ∷ e.table ∷ e.row ∷ [])) → b' ≡ sets b 0 (octets_of (ruling_words v))
+  refused-ruling v f q h = rw f (rw q at h)
+
+  pub refused_located : (a : Located) → a ≡ Err e → n ≡ number e.why → b' ≡ sets b 0 (octets_of (none ∷ n ∷ e.table ∷ e.row ∷ [])) → b' ≡ sets b 0 (octets_of (located_words a))
+  refused_located a f q h = rw f (rw q at h)

@@ -1,11 +1,12 @@
 -- The report's promise from what its parts have done, and that it leaves nothing open.
-use Rattle.std.specs.Prelude.{ℕ, ◌/◌, ◌≤◌, min, ◌≡◌, refl, true, false, List, [], ◌∷◌, length}
+use Rattle.std.specs.Prelude.{ℕ, ◌/◌, ◌≤◌, min, ◌<◌, ◌≡◌, refl, true, false, List, [], ◌∷◌, length, Ok, Err}
 use Rattle.std.proofs.Common.{sym, ◌∙◌, true≢false, zero-add, arith}
+use Rattle.std.proofs.lemmas.Bool.{false≢true}
 use Rattle.std.proofs.Math.Path.{ap, subst}
-use Rattle.listing.specs.Refusals.{outcome, is_accepted}
+use Rattle.listing.specs.Refusals.{Outcome, outcome, is_accepted, refusal}
 use Rattle.listing.specs.declared.Layout.{Layout}
-use Rattle.listing.specs.declared.Outcome.{Outcome}
-use Rattle.listing.specs.declared.Outcome.TheVariants.{Accepted, Refused}
+use Rattle.listing.specs.declared.Refusal.{Refusal}
+use Rattle.listing.specs.declared.Why.TheVariants as why
 use Rattle.pack.specs.Rows.{Pack, rows_in}
 use Rattle.pack.specs.Tables.{pack_in, pack_of}
 use Rattle.pack.specs.PackLaws.{rows-numbered}
@@ -19,21 +20,20 @@ use Rattle.metadata.specs.MetadataLaws.{rows-most}
 use Rattle.rules.specs.Codes.{table_of as tableOfCode}
 use Rattle.rules.specs.Judgments.{none}
 use Rattle.findings.specs.Findings.{Finding, of_code, findings}
-use Rattle.findings.specs.Answers.{findings_by, reported, fail_or, without_finding, ruled, verdict_of, is_refused}
+use Rattle.findings.specs.Answers.{findings_by, reported, fail_or, without_finding, ruled, Verdict, verdict_of, is_refused}
 use Rattle.findings.specs.ColumnAnswers.{column_reported}
 use Rattle.findings.specs.Schemes.{Scheme, findings_of}
 use Rattle.findings.specs.MetadataAnswers.{metadata_scheme, metadata_reported}
-use Rattle.findings.proofs.RulingLaws.{kind, ruled-kind, verdict_unlisted as unlisted, verdict_turned, verdict_judged}
+use Rattle.findings.proofs.RulingLaws.{verdict_unlisted as unlisted, verdict_turned, verdict_judged}
 use Rattle.findings.specs.WordLaws.{buffer-none}
 use Rattle.findings.specs.OrderLaws.{Numbered}
 use Rattle.findings.specs.Words.{room, written_of}
 use Rattle.findings.specs.declared.Ruling.{Ruling}
-use Rattle.findings.specs.declared.Ruling.TheVariants.{Pass, Fail, NotTestable}
-use Rattle.findings.specs.declared.Ruling.TheVariants as ruling
+use Rattle.findings.specs.declared.Ruling.TheVariants.{Fail}
 use Rattle.report.specs.Buffers.{head_row, Added, no_tally}
 use Rattle.report.specs.BufferLaws.{put_all}
 use Rattle.report.specs.WalkLaws.{Few}
-use Rattle.report.specs.Promises.{ReportBy, ReportOf, ColumnReportOf, MetadataReportOf, VerdictOf}
+use Rattle.report.specs.Promises.{Report, refusal_in, total_in, written_in, Reports, ReportBy, ReportOf, ColumnReportOf, MetadataReportOf, VerdictOf}
 use Rattle.report.specs.declared.Summary.{Summary}
 use Rattle.report.specs.declared.Tally.{Tally}
 
@@ -43,34 +43,37 @@ unfolding written_of
 none_written b = omega arith
 
 -- what is turned away
-pub report_refused : (b w : List ℕ) (o : Outcome) (fs : List Finding) (n t i : ℕ) (r : Summary) → o ≡ Refused n t i
-    → r.number ≡ n → r.table ≡ t → r.row ≡ i → r.total ≡ 0 → r.written ≡ 0 → ReportBy o (findings_by o fs) b w r b w
-report_refused b w o fs n t i r q a c d e f =
-    record { number = rw q a; table = rw q c; row = rw q d; total = rw q e; written = rw q (f ∙ none_written b); buffer = rw q (sym (buffer-none b)); kept = λ _. refl }
+pub report_refused : (b w : List ℕ) (o : Outcome) (fs : List Finding) (e : Refusal) (r : Report) → o ≡ Err e → r ≡ Err e → ReportBy o (findings_by o fs) b w r b w
+report_refused b w o fs e r q d = record { refusal = rw (q, d); total = rw (q, d); written = rw (q, d, ← none_written b); buffer = rw q (sym (buffer-none b)); kept = λ _. refl }
+
+-- what is counted
+pub counted : (b b' : List ℕ) (fs : List Finding) (t : Tally) (a : Summary) → Added fs b no_tally b' t → length b' ≡ length b → a.total ≡ t.total → a.written ≡ min t.total (length b' / 4 / 3)
+    → Reports fs b a b'
+unfolding written_of
+counted b b' fs t a d k g h =
+    let c : t.total ≡ length fs = d.count ∙ zero-add (length fs) in
+    record { total = g ∙ c; written = h ∙ rw (c, k); buffer = d.buffer ∙ put_all fs b }
 
 -- what is judged
-pub report_done : (b w : List ℕ) (o : Outcome) (l : Layout) (fs : List Finding) (b' w' : List ℕ) (t : Tally) (r : Summary) → o ≡ Accepted l
-    → Added fs b no_tally b' t → length b' ≡ length b → r.number ≡ 0 → r.table ≡ 0 → r.row ≡ 0 → r.total ≡ t.total → r.written ≡ min t.total (length b' / 4 / 3)
-    → ReportBy o (findings_by o fs) b w r b' w'
-unfolding written_of
-report_done b w o l fs b' w' t r q a k d e f g h =
-    let c : t.total ≡ length fs = a.count ∙ zero-add (length fs) in
-    let v : r.written ≡ min (length fs) (room b) = h ∙ rw (c, k) in
-    record {
-      number = rw q d;
-      table = rw q e;
-      row = rw q f;
-      total = rw q (g ∙ c);
-      written = rw q v;
-      buffer = rw q (a.buffer ∙ put_all fs b);
-      kept = λ z. absurd (true≢false (sym (ap is_accepted q) ∙ z));
-    }
+pub report_counted : (b w : List ℕ) (o : Outcome) (l : Layout) (fs : List Finding) (b' w' : List ℕ) (a : Summary) → o ≡ Ok l → Reports fs b a b' → ReportBy o (findings_by o fs) b w (Ok a) b' w'
+report_counted b w o l fs b' w' a q d = record {
+  refusal = rw q;
+  total = rw q d.total;
+  written = rw q d.written;
+  buffer = rw q d.buffer;
+  kept = λ z. absurd (true≢false (sym (ap is_accepted q) ∙ z));
+}
 
-pub accepted-numbered : (o : Outcome) (l : Layout) (p : Pack) → (is_accepted o ≡ true → Numbered p) → o ≡ Accepted l → Numbered p
+pub report_done : (b w : List ℕ) (o : Outcome) (l : Layout) (fs : List Finding) (b' w' : List ℕ) (t : Tally) (a : Summary) → o ≡ Ok l
+    → Added fs b no_tally b' t → length b' ≡ length b → a.total ≡ t.total → a.written ≡ min t.total (length b' / 4 / 3)
+    → ReportBy o (findings_by o fs) b w (Ok a) b' w'
+report_done b w o l fs b' w' t a q d k g h = report_counted b w o l fs b' w' a q (counted b b' fs t a d k g h)
+
+pub accepted-numbered : (o : Outcome) (l : Layout) (p : Pack) → (is_accepted o ≡ true → Numbered p) → o ≡ Ok l → Numbered p
 accepted-numbered o l p h e = h (ap is_accepted e)
 
 -- as it is told of a listing, and of one with columns
-module _ (s b w : List ℕ) (o : Outcome) (p : Pack) (r : Summary) (b' w' : List ℕ) where
+module _ (s b w : List ℕ) (o : Outcome) (p : Pack) (r : Report) (b' w' : List ℕ) where
   pub report_listing : o ≡ outcome s → p ≡ pack_of s → ReportBy o (findings_by o (findings p)) b w r b' w' → ReportOf s b w r b' w'
   unfolding reported
   report_listing e q h = subst (λ (x : Outcome). ReportBy x (findings_by x (findings (pack_of s))) b w r b' w') e (subst (λ (x : Pack). ReportBy o (findings_by o (findings x)) b w r b' w') q h)
@@ -82,7 +85,7 @@ module _ (s b w : List ℕ) (o : Outcome) (p : Pack) (r : Summary) (b' w' : List
       (subst (λ (x : Pack). ReportBy o (findings_by o (findings x)) b w r b' w') (d ∙ ap (pack_in form.Columns) q) h)
 
 -- and of the metadata of its sibling
-pub report_notes : (s m b w : List ℕ) (o : Outcome) (ts : List (List ℕ)) (r : Summary) (b' w' : List ℕ) → o ≡ metadata_outcome s m → ts ≡ tables_for s m
+pub report_notes : (s m b w : List ℕ) (o : Outcome) (ts : List (List ℕ)) (r : Report) (b' w' : List ℕ) → o ≡ metadata_outcome s m → ts ≡ tables_for s m
     → ReportBy o (findings_by o (findings_of (metadata_scheme (notebook_in ts)))) b w r b' w' → MetadataReportOf s m b w r b' w'
 unfolding metadata_reported notebook_of
 report_notes s m b w o ts r b' w' e q h =
@@ -90,14 +93,14 @@ report_notes s m b w o ts r b' w' e q h =
     (subst (λ (us : List (List ℕ)). ReportBy o (findings_by o (findings_of (metadata_scheme (notebook_in us)))) b w r b' w') q h)
 
 -- two answers that keep the promise are the same, and so are the buffers
-pub report_one : (o : Outcome) (fs : List Finding) (b w : List ℕ) (r₁ r₂ : Summary) (b₁ b₂ w₁ w₂ : List ℕ) → ReportBy o fs b w r₁ b₁ w₁ → ReportBy o fs b w r₂ b₂ w₂ → (r₁ ≡ r₂) × (b₁ ≡ b₂)
-report_one o fs b w r₁ r₂ b₁ b₂ w₁ w₂ p q =
-    let n : r₁.number ≡ r₂.number = p.number ∙ sym q.number in
-    let t : r₁.table ≡ r₂.table = p.table ∙ sym q.table in
-    let i : r₁.row ≡ r₂.row = p.row ∙ sym q.row in
-    let m : r₁.total ≡ r₂.total = p.total ∙ sym q.total in
-    let k : r₁.written ≡ r₂.written = p.written ∙ sym q.written in
-    ((λ j. record { number = n j; table = t j; row = i j; total = m j; written = k j }), p.buffer ∙ sym q.buffer)
+pub report_one : (o : Outcome) (fs : List Finding) (b w : List ℕ) (r₁ r₂ : Report) (b₁ b₂ w₁ w₂ : List ℕ) → ReportBy o fs b w r₁ b₁ w₁ → ReportBy o fs b w r₂ b₂ w₂ → (r₁ ≡ r₂) × (b₁ ≡ b₂)
+report_one o fs b w r₁ r₂ b₁ b₂ w₁ w₂ p q = (by r₁ r₂ (p.refusal ∙ sym q.refusal) (p.total ∙ sym q.total) (p.written ∙ sym q.written), p.buffer ∙ sym q.buffer)
+  where
+    by : (r q : Report) → refusal_in r ≡ refusal_in q → total_in r ≡ total_in q → written_in r ≡ written_in q → r ≡ q
+    by (Ok x) (Ok y) e m k = λ j. Ok (record { total = m j; written = k j })
+    by (Ok x) (Err e) d m k = cc
+    by (Err e) (Ok x) d m k = cc
+    by (Err e) (Err f) d m k = cc
 
 -- ---- a verdict from a tally of its code's findings
 pub tally_none : (fs : List Finding) (a : Ruling) → length fs ≡ 0 → a ≡ fail_or fs a
@@ -144,35 +147,29 @@ pub notes-accepted : (s m : List ℕ) (ts : List (List ℕ)) (o : Outcome) → t
 unfolding notebook_of
 notes-accepted s m ts o e q a = subst (λ (us : List (List ℕ)). Few (metadata_scheme (notebook_in us))) (sym e) (λ t. omega (arith, rows-most s m (ap is_accepted (sym q) ∙ a) t))
 
-pub accepted-few : (o : Outcome) (l : Layout) (r : Scheme) → (is_accepted o ≡ true → Few r) → o ≡ Accepted l → Few r
+pub accepted-few : (o : Outcome) (l : Layout) (r : Scheme) → (is_accepted o ≡ true → Few r) → o ≡ Ok l → Few r
 accepted-few o l r h e = h (ap is_accepted e)
 
-pub accepted-by : (s : List ℕ) (o : Outcome) (l : Layout) → o ≡ outcome s → o ≡ Accepted l → is_accepted (outcome s) ≡ true
+pub accepted-by : (s : List ℕ) (o : Outcome) (l : Layout) → o ≡ outcome s → o ≡ Ok l → is_accepted (outcome s) ≡ true
 accepted-by s o l e f = ap is_accepted (sym e ∙ f)
 
 -- ---- the verdict
-ruled_stands : (p : Pack) (c : ℕ) → is_refused (ruled p c) ≡ false
-ruled_stands p c = by (ruled p c) (ruled-kind p c)
-  where
-    by : (v : Ruling) → kind v ≤ 2 → is_refused v ≡ false
-    by Pass h = refl
-    by (Fail i) h = refl
-    by NotTestable h = refl
-    by (ruling.Refused n t r) h = absurd (omega arith)
+module _ (s : List ℕ) (c : ℕ) (w : List ℕ) where
+  pub verdict_unlisted : tableOfCode c ≡ 0 → VerdictOf s c w (Err (refusal why.Code 0 0)) w
+  verdict_unlisted z = record { ruling = sym (unlisted s c z); kept = λ _. refl }
 
-module _ (s : List ℕ) (c t : ℕ) (w : List ℕ) (e : t ≡ tableOfCode c) where
-  pub verdict_unlisted : t ≡ 0 → VerdictOf s c w (ruling.Refused 9 0 0) w
-  verdict_unlisted z = record { ruling = sym (unlisted s c (sym e ∙ z)); kept = λ _. refl }
+  module _ (t : ℕ) (e : t ≡ tableOfCode c) (n : 0 < t) (o : Outcome) (f : o ≡ outcome s) where
+    listed : tableOfCode c ≡ 0 → ⊥
+    listed z = omega arith
 
-  module _ (n : t ≡ 0 → ⊥) (o : Outcome) (f : o ≡ outcome s) where
-    pub verdict_refused : (m u r : ℕ) → o ≡ Refused m u r → VerdictOf s c w (ruling.Refused m u r) w
-    verdict_refused m u r g = record { ruling = sym (verdict_turned s c m u r (λ z. n (e ∙ z)) (sym f ∙ g)); kept = λ _. refl }
+    pub verdict_refused : (x : Refusal) (r : Verdict) → o ≡ Err x → r ≡ Err x → VerdictOf s c w r w
+    verdict_refused x r g h = record { ruling = h ∙ sym (verdict_turned s c x listed (sym f ∙ g)); kept = λ _. refl }
 
-    pub verdict_done : (l : Layout) (v : Ruling) (w' : List ℕ) → o ≡ Accepted l → v ≡ ruled (pack_of s) c → VerdictOf s c w v w'
+    pub verdict_done : (l : Layout) (v : Ruling) (w' : List ℕ) → o ≡ Ok l → v ≡ ruled (pack_of s) c → VerdictOf s c w (Ok v) w'
     verdict_done l v w' g q =
-        let is : v ≡ verdict_of s c = q ∙ sym (verdict_judged s c (λ z. n (e ∙ z)) (ap is_accepted (sym f ∙ g))) in
-        record { ruling = is; kept = λ z. absurd (true≢false (sym z ∙ ap is_refused (sym is ∙ q) ∙ ruled_stands (pack_of s) c)) }
+        let is : Ok v ≡ verdict_of s c = ap Ok q ∙ sym (verdict_judged s c listed (ap is_accepted (sym f ∙ g))) in
+        record { ruling = is; kept = λ z. absurd (false≢true (ap is_refused is ∙ z)) }
 
 -- two answers that keep the promise are the same
-pub verdict_one : (s : List ℕ) (c : ℕ) (w : List ℕ) (r₁ r₂ : Ruling) (w₁ w₂ : List ℕ) → VerdictOf s c w r₁ w₁ → VerdictOf s c w r₂ w₂ → r₁ ≡ r₂
+pub verdict_one : (s : List ℕ) (c : ℕ) (w : List ℕ) (r₁ r₂ : Verdict) (w₁ w₂ : List ℕ) → VerdictOf s c w r₁ w₁ → VerdictOf s c w r₂ w₂ → r₁ ≡ r₂
 verdict_one s c w r₁ r₂ w₁ w₂ p q = p.ruling ∙ sym q.ruling

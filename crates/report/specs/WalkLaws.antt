@@ -1,16 +1,14 @@
 -- What an index finds is what the rule of 541 says; and a walk over rows, in the shape in which goals ask for it.
-use Rattle.std.specs.Prelude.{ℕ, zero, suc, ◌+◌, ◌^◌, ◌<◌, ◌≤◌, ◌≡◌, refl, List, [], Bool, true, length}
+use Rattle.std.specs.Prelude.{ℕ, zero, suc, ◌+◌, ◌^◌, ◌<◌, ◌≤◌, ◌≡◌, refl, List, [], Bool, true, length, None, Some}
 use Rattle.std.proofs.Common.{zero-le, sym, ap, ◌∙◌, subst, le_antisymm, add-one-le, arith, length-append}
 use Rattle.octets.specs.Gather.{gather}
 use Rattle.octets.specs.GatherLaws.{gather-one, gather-agree}
 use Rattle.octets.specs.Search.{first}
 use Rattle.pack.specs.Rows.{Rows, Tile, Pack, rows_in}
 use Rattle.index.specs.TileKeys.{address_at, is_at}
-use Rattle.rules.specs.Judgments.{none, partner}
+use Rattle.rules.specs.Judgments.{none, partner, Judgment}
 use Rattle.rules.specs.Tiles.{of541}
 use Rattle.rules.specs.Codes.{judged}
-use Rattle.rules.specs.declared.Judgment.{Judgment}
-use Rattle.rules.specs.declared.Judgment.TheVariants.{Clean, Hit}
 use Rattle.findings.specs.Findings.{Finding, found, at_row}
 use Rattle.findings.specs.Schemes.{Scheme, at_row_by}
 use Rattle.survey.specs.declared.Survey.{Survey}
@@ -34,8 +32,8 @@ pub record Walking (f : ℕ → List Finding) (b : List ℕ) (t : Tally) (n i : 
   pub kept : length b' ≡ length b
 
 found-one : (c i : ℕ) (v : Judgment) → length (found c i v) ≤ 1
-found-one c i Clean = omega arith
-found-one c i (Hit j) = omega arith
+found-one c i None = omega arith
+found-one c i (Some j) = omega arith
 
 module _ (f : ℕ → List Finding) (b : List ℕ) (t : Tally) (n : ℕ) where
   pub walk_start : Walking f b t n 0 b t
@@ -89,7 +87,7 @@ as_541 p n code b b' t t' e a =
     subst (λ (fs : List Finding). Added fs b t b' t') (gather-agree n (at541 p.tiles) (at_row p code) (λ i l. is_541 p i ∙ ap (λ (d : ℕ). at_row p d i) (sym e))) a
 
 -- ---- a code of which a survey tells that it has no finding on a row
-clean-none : (n code : ℕ) (p : Pack) → ((i : ℕ) → i < n → judged p code i ≡ Clean) → gather n (at_row p code) ≡ []
+clean-none : (n code : ℕ) (p : Pack) → ((i : ℕ) → i < n → judged p code i ≡ None) → gather n (at_row p code) ≡ []
 unfolding at_row
 clean-none zero code p h = refl
 clean-none (suc n) code p h = simp (clean-none n code p (λ i l. h i (omega arith)), h n (omega arith))

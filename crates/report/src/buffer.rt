@@ -1,7 +1,8 @@
 // Findings put into the caller's buffer, one by one.
-ghost use Rattle.std.specs.Prelude.{◌≡◌, ◌+◌, ◌<◌, ◌^◌};
+ghost use Rattle.std.specs.Prelude.{ℕ, ◌≡◌, ◌+◌, ◌<◌, ◌^◌};
 ghost use Rattle.findings.specs.Findings.{found};
 ghost use Rattle.report.specs.Buffers.{finding_of, put_one, Added};
+ghost use Rattle.report.specs.Walks.{Gathers};
 
 use crate::Tally;
 use rules::Judgment;
@@ -23,7 +24,7 @@ pub fn add(out: &mut [u8], t: Tally, code: u32, row: usize, v: Judgment) -> Tall
     requires { t.total + 1 < 2 ^ 64 }
     ensures { Added (found code row v) out.old t out.new result }
 {
-    let Judgment::Hit(partner) = v else {
+    let Some(partner) = v else {
         return t;
     };
     let total = t.total;
@@ -35,4 +36,23 @@ pub fn add(out: &mut [u8], t: Tally, code: u32, row: usize, v: Judgment) -> Tall
         total: total + 1,
         row: t.row,
     }
+}
+
+// Adds what a rule says of each of the first n rows.
+pub fn add_rows<F: Fn(usize) -> Judgment>(
+    out: &mut [u8],
+    t: Tally,
+    code: u32,
+    n: usize,
+    rule: F,
+) -> Tally
+    requires callable { (i : ℕ) → i < n → F.pre rule i }
+    requires n_bound { t.total + n < 2 ^ 64 }
+    ensures { Gathers (F.post rule) code n out.old t out.new result }
+{
+    let mut tally = t;
+    for i in 0..n {
+        tally = add(out, tally, code, i, rule(i));
+    }
+    tally
 }

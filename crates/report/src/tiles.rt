@@ -7,30 +7,20 @@ ghost use Rattle.report.specs.Walks.{at541};
 
 use crate::Tally;
 use crate::buffer::add;
-use pack::{Form, SLICE_COUNT};
+use pack::Tables;
 
 // Each row is entered in its turn, and finds the lowest row below it with its address.
-pub fn add_541(
-    form: Form,
-    tables: [&[u8]; SLICE_COUNT],
-    names: &[u8],
-    out: &mut [u8],
-    work: &mut [u8],
-    t: Tally,
-) -> Tally
-    requires { t.total + tile_count form (map (λ x. x.now) tables) < 2 ^ 64 }
-    ensures { Added (gather (tile_count form (map (λ x. x.now) tables.entry)) (at541 (tiles_in form (map (λ x. x.now) tables.entry) names.now))) out.old t out.new result }
+// A loop of its own beside `add_rows`: the rule changes the index that the next row asks, and a contract over such a closure's states is longer than the loop.
+pub fn add_541(tables: Tables, names: &[u8], out: &mut [u8], work: &mut [u8], t: Tally) -> Tally
+    requires { t.total + tile_count tables.form (map (λ x. x.now) tables.slices) < 2 ^ 64 }
+    ensures { Added (gather (tile_count tables.entry.form (map (λ x. x.now) tables.entry.slices)) (at541 (tiles_in tables.entry.form (map (λ x. x.now) tables.entry.slices) names.now))) out.old t out.new result }
 {
-    let n = pack::tile_count(form, tables);
+    let n = tables.tile_count();
     let heads = index::start(work, n);
     let mut tally = t;
-    let mut i = 0;
-    while i < n {
-        let next = i + 1;
-        let k = index::enter_address(form, tables, names, work, heads, i);
-        let v = judge::partner_of(k, i);
-        tally = add(out, tally, 541, i, v);
-        i = next;
+    for i in 0..n {
+        let k = index::enter_address(tables, names, work, heads, i);
+        tally = add(out, tally, 541, i, judge::partner_of(k, i));
     }
     tally
 }

@@ -1,5 +1,6 @@
 -- The 36 codes with their tables, and the rule of each.
-use Rattle.std.specs.Prelude.{ℕ, List, [], ◌∷◌, cond, eqb, get_or, drop, pos, negsuc}
+use Rattle.rules.specs.Judgments.{Judgment}
+use Rattle.std.specs.Prelude.{ℕ, List, [], ◌∷◌, cond, eqb, get_or, drop, pos, negsuc, None}
 use Rattle.pack.specs.Rows.{Pack}
 use Rattle.rules.specs.References.{of101, of111, of112, of113, lacks_id}
 use Rattle.rules.specs.Contents.{of131, of151, of161, of162, of401, none171}
@@ -7,8 +8,6 @@ use Rattle.rules.specs.Sets.{of391, of392, of411}
 use Rattle.rules.specs.Matrices.{of351, of431, of432, of451, of452, of461, of471, of481, of491, of501, of511, of521, of531}
 use Rattle.rules.specs.Tiles.{of341, of441, of541, of551, of561, of571}
 use Rattle.rules.specs.Extensions.{of601, of621, of622, of641}
-use Rattle.rules.specs.declared.Judgment.{Judgment}
-use Rattle.rules.specs.declared.Judgment.TheVariants.{Clean}
 
 -- "the 36 codes with their tables stand as a constant table"
 abbrev pub codes : List ℕ
@@ -180,7 +179,7 @@ judged p code i =
     (cond (eqb code 621) (rule621 p i)
     (cond (eqb code 622) (rule622 p i)
     (cond (eqb code 641) (rule641 p i)
-    Clean))))))))))))))))))))))))))))))))))
+    None))))))))))))))))))))))))))))))))))
 
 -- "these are the only findings without a row": 111, 112, 113 and 171
 unfoldable pub judged_none : Pack → ℕ → Judgment
@@ -188,4 +187,4 @@ judged_none p code =
     cond (eqb code 111) (lacks_id (pos 4326) p.references)
     (cond (eqb code 112) (lacks_id (negsuc 0) p.references)
     (cond (eqb code 113) (lacks_id (pos 0) p.references)
-    (cond (eqb code 171) (none171 p.contents) Clean)))
+    (cond (eqb code 171) (none171 p.contents) None)))

@@ -1,14 +1,12 @@
 -- The rules on contents (table 2): 131, 151, 161, 162, 171, 401; and tiles names.
-use Rattle.std.specs.Prelude.{ℕ, List, Bool, false, cond, not, ◌&&◌, ◌||◌, ℤ}
+use Rattle.std.specs.Prelude.{ℕ, List, Bool, false, cond, not, ◌&&◌, ◌||◌, ℤ, None}
 use Rattle.octets.specs.Numbers.{eq_z}
 use Rattle.octets.specs.Texts.{Nullable, There, Null, same}
 use Rattle.spelling.specs.Dates.{is_date}
 use Rattle.spelling.specs.Words.{tiles, features}
 use Rattle.pack.specs.Rows.{Rows, Reference, Content, MatrixSet}
-use Rattle.rules.specs.Judgments.{fault_if, lowest, some, unless_some}
+use Rattle.rules.specs.Judgments.{fault_if, lowest, some, unless_some, Judgment}
 use Rattle.rules.specs.References.{has_id}
-use Rattle.rules.specs.declared.Judgment.{Judgment}
-use Rattle.rules.specs.declared.Judgment.TheVariants.{Clean}
 
 -- a contents row has a data_type
 unfoldable pub of_type : List ℕ → Content → Bool
@@ -39,7 +37,7 @@ of151 c = fault_if (not (is_date c.last_change))
 -- 161: contents srs_id is present and no reference row has it
 abbrev pub lacks161 : Rows Reference → Nullable ℤ → Judgment
 lacks161 rs (There id) = unless_some (has_id id) rs
-lacks161 rs Null = Clean
+lacks161 rs Null = None
 
 unfoldable pub of161 : Rows Reference → Content → Judgment
 of161 rs c = lacks161 rs c.srs_id
@@ -53,7 +51,7 @@ unfoldable pub breaks162 : Content → MatrixSet → Bool
 breaks162 c q = set_named c.name q && not (is_id c.srs_id q.srs_id)
 
 unfoldable pub of162 : Rows MatrixSet → Content → Judgment
-of162 ss c = cond (of_type tiles c) (lowest (breaks162 c) ss ss.count) Clean
+of162 ss c = cond (of_type tiles c) (lowest (breaks162 c) ss ss.count) None
 
 -- 171: no contents row has data_type "tiles" or "features" (row none)
 unfoldable pub is_map : Content → Bool
@@ -64,4 +62,4 @@ none171 cs = unless_some is_map cs
 
 -- 401: contents row with "tiles" and no set row of its name
 unfoldable pub of401 : Rows MatrixSet → Content → Judgment
-of401 ss c = cond (of_type tiles c) (unless_some (set_named c.name) ss) Clean
+of401 ss c = cond (of_type tiles c) (unless_some (set_named c.name) ss) None

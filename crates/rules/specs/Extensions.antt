@@ -1,18 +1,16 @@
 -- The rules on extensions (table 6): 601, 621, 622, 641.
-use Rattle.std.specs.Prelude.{ℕ, List, Bool, not, ◌&&◌, ◌||◌}
+use Rattle.std.specs.Prelude.{ℕ, List, Bool, not, ◌&&◌, ◌||◌, None, Some}
 use Rattle.octets.specs.Texts.{Nullable, There, Null, same, both_same}
 use Rattle.spelling.specs.ExtensionNames.{is_extension_name}
 use Rattle.spelling.specs.Words.{read_write, write_only}
 use Rattle.pack.specs.Rows.{Rows, Extension}
-use Rattle.rules.specs.Judgments.{none, fault_if, lowest}
-use Rattle.rules.specs.declared.Judgment.{Judgment}
-use Rattle.rules.specs.declared.Judgment.TheVariants.{Clean, Hit}
+use Rattle.rules.specs.Judgments.{none, fault_if, lowest, Judgment}
 
 -- 601: extension row; column_name present, table_name NULL
 abbrev pub lacks601 : Nullable (List ℕ) → Nullable (List ℕ) → Judgment
-lacks601 (There x) c = Clean
-lacks601 Null (There c) = Hit none
-lacks601 Null Null = Clean
+lacks601 (There x) c = None
+lacks601 Null (There c) = Some none
+lacks601 Null Null = None
 
 unfoldable pub of601 : Extension → Judgment
 of601 e = lacks601 e.table e.column

@@ -1,15 +1,13 @@
 -- 2026-02: "no new finding may appear". A row has 451 (452) now only if it had it before, and then with the same partner.
-use Rattle.std.specs.Prelude.{◌≡◌, refl, Bool, true, false, cond, not, ◌⊎◌, ℕ, ltb}
+use Rattle.std.specs.Prelude.{◌≡◌, refl, Bool, true, false, cond, not, ◌⊎◌, ℕ, ltb, None}
 use Rattle.std.proofs.lemmas.Bool.{false≢true}
 use Rattle.std.proofs.Common.{inl, inr}
 use Rattle.doubles.specs.FarLaws.{spans_x_before, spans_y_before, still_measures}
 use Rattle.doubles.specs.declared.Extent.{Extent}
 use Rattle.pack.specs.Rows.{Rows, MatrixSet, Matrix}
-use Rattle.rules.specs.Judgments.{fault_if, first_row}
+use Rattle.rules.specs.Judgments.{fault_if, first_row, Judgment}
 use Rattle.rules.specs.Contents.{set_named}
 use Rattle.rules.specs.Matrices.{fits451, fits452, measured, of451, of452}
-use Rattle.rules.specs.declared.Judgment.{Judgment}
-use Rattle.rules.specs.declared.Judgment.TheVariants.{Clean}
 
 -- 451 and 452 as document 01 has them
 unfoldable pub fits451_before : Matrix → Extent → Bool
@@ -26,7 +24,7 @@ of452_before ss m = measured fits452_before ss m (first_row (set_named m.name) s
 
 -- a judgment that is clean or as it was
 abbrev pub Fewer : Judgment → Judgment → Type 0
-Fewer now before = (now ≡ Clean) ⊎ (now ≡ before)
+Fewer now before = (now ≡ None) ⊎ (now ≡ before)
 
 fault_fewer : (now before : Bool) → (before ≡ true → now ≡ true) → Fewer (fault_if (not now)) (fault_if (not before))
 fault_fewer true before h = inl refl
@@ -38,7 +36,7 @@ measured_fewer : (now before : Matrix → Extent → Bool) → ((m : Matrix) (e 
 unfolding measured
 measured_fewer now before h ss m k = by (ltb k ss.count)
   where
-    by : (b : Bool) → Fewer (cond b (fault_if (not (now m (ss.row k).extent))) Clean) (cond b (fault_if (not (before m (ss.row k).extent))) Clean)
+    by : (b : Bool) → Fewer (cond b (fault_if (not (now m (ss.row k).extent))) None) (cond b (fault_if (not (before m (ss.row k).extent))) None)
     by true = fault_fewer _ _ (h m (ss.row k).extent)
     by false = inl refl
 

@@ -1,8 +1,8 @@
 -- What a rule says, from the answer of a search.
+use Rattle.rules.specs.Judgments.{Judgment}
 use Rattle.std.specs.Prelude.{ℕ, ◌<◌, ◌≤◌, ◌≡◌, Bool, cond, ltb}
 use Rattle.std.proofs.Common.{lt-ltb, le-ltb}
 use Rattle.octets.specs.Search.{first, any}
-use Rattle.rules.specs.declared.Judgment.{Judgment}
 
 -- a search below n has answered r
 pub is_found : (p : ℕ → Bool) (n r : ℕ) → r ≡ first p n → ltb r n ≡ any p n

@@ -1,5 +1,5 @@
 -- The rules on matrices (table 4): 351, 431, 432, 451, 452, 461, 471, 481, 491, 501, 511, 521, 531.
-use Rattle.std.specs.Prelude.{ℕ, List, Bool, cond, not, ◌&&◌, ltb, ℤ, pos}
+use Rattle.std.specs.Prelude.{ℕ, List, Bool, cond, not, ◌&&◌, ltb, ℤ, pos, None}
 use Rattle.std.proofs.Math.IntN.{suc_ℤ}
 use Rattle.std.specs.Int.Signed.{lt_z}
 use Rattle.octets.specs.Numbers.{eq_z}
@@ -8,10 +8,8 @@ use Rattle.doubles.specs.Doubles.{positive, near, twice, strictly_below, spans_x
 use Rattle.doubles.specs.declared.Extent.{Extent}
 use Rattle.spelling.specs.Words.{zoom_other}
 use Rattle.pack.specs.Rows.{Rows, Content, MatrixSet, Matrix, Tile, Extension}
-use Rattle.rules.specs.Judgments.{fault_if, lowest, first_row, some}
+use Rattle.rules.specs.Judgments.{fault_if, lowest, first_row, some, Judgment}
 use Rattle.rules.specs.Contents.{is_tiles_name, set_named}
-use Rattle.rules.specs.declared.Judgment.{Judgment}
-use Rattle.rules.specs.declared.Judgment.TheVariants.{Clean}
 
 -- a matrix row has a name; a name and a zoom level
 unfoldable pub matrix_named : List ℕ → Matrix → Bool
@@ -36,7 +34,7 @@ breaks351 m q = matrix_named m.name q && (eq_z (suc_ℤ q.zoom) m.zoom && not (n
 
 unfoldable pub of351 : Rows Matrix → Rows Tile → Rows Extension → Matrix → Judgment
 of351 ms ts es m =
-    cond (some (tile_named m.name) ts) (cond (some (frees m.name) es) Clean (lowest (breaks351 m) ms ms.count)) Clean
+    cond (some (tile_named m.name) ts) (cond (some (frees m.name) es) None (lowest (breaks351 m) ms ms.count)) None
 
 -- 431: matrix row; no tiles name
 unfoldable pub of431 : Rows Content → Matrix → Judgment
@@ -56,7 +54,7 @@ fits452 m e = spans_y e m.height m.tile_height m.pixel_y
 
 -- a matrix row against the extent of the first set row of its name, if there is one
 unfoldable pub measured : (Matrix → Extent → Bool) → Rows MatrixSet → Matrix → ℕ → Judgment
-measured fits ss m k = cond (ltb k ss.count) (fault_if (not (fits m (ss.row k).extent))) Clean
+measured fits ss m k = cond (ltb k ss.count) (fault_if (not (fits m (ss.row k).extent))) None
 
 unfoldable pub of451 : Rows MatrixSet → Matrix → Judgment
 of451 ss m = measured fits451 ss m (first_row (set_named m.name) ss)

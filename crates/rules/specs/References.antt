@@ -5,8 +5,7 @@ use Rattle.octets.specs.Texts.{same}
 use Rattle.spelling.specs.LetterCase.{in_any_case}
 use Rattle.spelling.specs.Words.{epsg, none_word, undefined_word}
 use Rattle.pack.specs.Rows.{Rows, Reference}
-use Rattle.rules.specs.Judgments.{fault_if, lowest, unless_some}
-use Rattle.rules.specs.declared.Judgment.{Judgment}
+use Rattle.rules.specs.Judgments.{fault_if, lowest, unless_some, Judgment}
 
 -- a reference row has an srs_id
 unfoldable pub has_id : ℤ → Reference → Bool

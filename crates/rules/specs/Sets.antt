@@ -1,10 +1,9 @@
 -- The rules on matrix sets (table 3): 391, 392, 411.
 use Rattle.std.specs.Prelude.{ℕ, not}
 use Rattle.pack.specs.Rows.{Rows, Reference, Content, MatrixSet}
-use Rattle.rules.specs.Judgments.{fault_if, lowest, unless_some}
+use Rattle.rules.specs.Judgments.{fault_if, lowest, unless_some, Judgment}
 use Rattle.rules.specs.References.{has_id}
 use Rattle.rules.specs.Contents.{is_tiles_name, set_named}
-use Rattle.rules.specs.declared.Judgment.{Judgment}
 
 -- 391: set row; no tiles name
 unfoldable pub of391 : Rows Content → MatrixSet → Judgment

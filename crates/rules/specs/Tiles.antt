@@ -1,14 +1,12 @@
 -- The rules on tiles (table 5): 341, 441, 541, 551, 561, 571.
-use Rattle.std.specs.Prelude.{ℕ, List, Bool, cond, not, ◌&&◌, ◌||◌, ltb, ℤ, pos}
+use Rattle.std.specs.Prelude.{ℕ, List, Bool, cond, not, ◌&&◌, ◌||◌, ltb, ℤ, pos, None, Some}
 use Rattle.std.specs.Int.Signed.{lt_z}
 use Rattle.octets.specs.Numbers.{eq_z}
 use Rattle.octets.specs.Texts.{same}
 use Rattle.pack.specs.Rows.{Rows, Content, Matrix, Tile}
-use Rattle.rules.specs.Judgments.{none, fault_if, lowest, first_row, some, unless_some}
+use Rattle.rules.specs.Judgments.{none, fault_if, lowest, first_row, some, unless_some, Judgment}
 use Rattle.rules.specs.Contents.{is_tiles_name}
 use Rattle.rules.specs.Matrices.{matrix_named, at_level}
-use Rattle.rules.specs.declared.Judgment.{Judgment}
-use Rattle.rules.specs.declared.Judgment.TheVariants.{Clean, Hit}
 
 -- 341: tile row; its name is no tiles name
 unfoldable pub of341 : Rows Content → Tile → Judgment
@@ -35,7 +33,7 @@ unfoldable pub at_least : Tile → Matrix → Bool
 at_least t q = matrix_named t.name q && not (lt_z q.zoom t.zoom)
 
 unfoldable pub of551 : Rows Matrix → Tile → Judgment
-of551 ms t = cond (some (matrix_named t.name) ms) (cond (some (at_most t) ms) (unless_some (at_least t) ms) (Hit none)) Clean
+of551 ms t = cond (some (matrix_named t.name) ms) (cond (some (at_most t) ms) (unless_some (at_least t) ms) (Some none)) None
 
 -- 561, 571: first matrix row of its name and zoom exists, and tile_column (tile_row) is below 0 or not below its width (height)
 unfoldable pub off_grid : ℤ → ℤ → Bool
@@ -49,7 +47,7 @@ unfoldable pub off571 : Tile → Matrix → Bool
 off571 t q = off_grid t.row q.height
 
 unfoldable pub placed : (Tile → Matrix → Bool) → Rows Matrix → Tile → ℕ → Judgment
-placed off ms t k = cond (ltb k ms.count) (fault_if (off t (ms.row k))) Clean
+placed off ms t k = cond (ltb k ms.count) (fault_if (off t (ms.row k))) None
 
 unfoldable pub of561 : Rows Matrix → Tile → Judgment
 of561 ms t = placed off561 ms t (first_row (at_level t.name t.zoom) ms)

@@ -4,20 +4,16 @@
 ghost use Rattle.std.specs.Prelude.{◌≡◌, ◌<◌};
 ghost use Rattle.rules.specs.Codes.{code_count, code_at, table_at};
 
-// No row: where a finding has no row or no partner, a verdict no row, a lookup no tile.
+// No row: where a finding has no row or no partner, a verdict no row, a lookup no tile. A number and no `None`, since what callers in C read has it.
 pub const NONE: usize = 4294967295;
 
 // What a rule says of a row: nothing, or a finding with its partner or NONE.
-#[derive(Clone, Copy)]
-pub enum Judgment {
-    Clean,
-    Hit(usize),
-}
+pub type Judgment = Option<usize>;
 
 // How many codes there are.
 pub const CODE_COUNT: usize = 36;
 
-// The codes, in the order of their findings.
+// The codes, in the order of their findings. An array of them and one of their tables, which report and verdict walk: the form that document 01 names.
 const CODES: [u32; CODE_COUNT] = [
     101, 111, 112, 113, 131, 151, 161, 162, 171, 341, 351, 391, 392, 401, 411, 431, 432, 441, 451,
     452, 461, 471, 481, 491, 501, 511, 521, 531, 541, 551, 561, 571, 601, 621, 622, 641,

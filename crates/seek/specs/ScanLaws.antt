@@ -1,12 +1,14 @@
 -- Tiles that are passed by column and row are not at the address.
-use Rattle.std.specs.Prelude.{ℕ, ◌+◌, ◌*◌, ◌/◌, ◌<◌, ◌≤◌, min, ◌≡◌, refl, Bool, true, false, ◌&&◌, ℤ}
-use Rattle.std.proofs.Common.{sym, ◌∙◌, arith, lt-ltb}
+use Rattle.std.specs.Prelude.{ℕ, ◌+◌, ◌-◌, ◌*◌, ◌/◌, ◌<◌, ◌≤◌, min, ◌≡◌, refl, Bool, true, false, ◌&&◌, ℤ}
+use Rattle.std.proofs.Common.{zero-le, subst, sym, ◌∙◌, arith, lt-ltb}
 use Rattle.std.proofs.Math.Path.{ap}
 use mathlib.Core.List.{List}
 use Rattle.std.proofs.Math.ListN.{length}
+use Rattle.octets.specs.Counts.{one_if, Counted}
 use Rattle.octets.specs.Numbers.{signed, eq_z}
+use Rattle.octets.specs.Search.{Sought}
 use Rattle.octets.specs.SearchLaws.{Seeking, seek-start, seek-more}
-use Rattle.octets.specs.SkipLaws.{Skipped, skipped_on}
+use Rattle.octets.specs.SkipLaws.{Skipped, skipped_join, skipped_on, side}
 use Rattle.octets.specs.Slices.{nth}
 use Rattle.octets.specs.Texts.{same}
 use Rattle.pack.specs.Columns.{entries, entry_at, entry_count}
@@ -16,6 +18,27 @@ use Rattle.pack.specs.declared.Form.{Form}
 use Rattle.pack.specs.declared.Form.TheVariants as form
 use Rattle.rules.specs.Tiles.{at_address}
 use Rattle.seek.specs.Scans.{is_entry, is_row, is_place}
+
+-- ---- a search for a number of which something is counted passes the others
+none_counted : (b : Bool) → one_if b ≡ 0 → b ≡ false
+unfolding one_if
+none_counted true e = absurd (omega (arith, e))
+none_counted false e = refl
+
+pub counted_nothing : (p : ℕ → Bool) (i j c : ℕ) → Counted p i j c → c ≡ 0 → Counted p i j 0
+counted_nothing p i j c h z = subst (λ (d : ℕ). Counted p i j d) z h
+
+module _ (p : ℕ → Bool) (says : ℕ → Bool → Type 0) (start n : ℕ) where
+  pub skipped_by : (i r : ℕ) → Skipped p start n i → ((k : ℕ) → i ≤ k → k < n → says k false → one_if (p k) ≡ 0) → Sought says i n r → Skipped p start n r
+  skipped_by i r h f s = skipped_join p start n i r h (side r n s.from (λ m. omega (arith, h.high))) s.most (λ k a b. none_counted (p k) (f k a (omega (arith, s.most)) (s.below k a b)))
+
+  -- and one of eights those in each
+  pub skipped_eights : (r : ℕ) → start ≤ n → ((e : ℕ) → e < (n - start) / 8 → says e false → Counted p (start + 8 * e) (start + 8 * e + 8) 0) → Sought says 0 ((n - start) / 8) r → Skipped p start n (start + 8 * r)
+  skipped_eights r l f s = record {
+    low = omega arith;
+    high = omega (arith, s.most);
+    none = λ k a b. (f ((k - start) / 8) (omega (arith, s.most)) (s.below ((k - start) / 8) zero-le (omega arith))).none refl k (omega arith) (omega arith);
+  }
 
 -- ---- a pass by the numbers of one form is a pass by tiles
 skipped_as : (p q : ℕ → Bool) (start n r : ℕ) → Skipped p start n r → ((k : ℕ) → k < n → p k ≡ q k) → Skipped q start n r

@@ -1,8 +1,8 @@
-// Rows that pass a test: one enum of tests and one loop for each table.
+// Rows that pass a test: what the rules ask of the rows of each table, and the searches for the lowest.
 #![tactic(auto)]
 
 use octets::Name;
-use pack::{ContentsRow, ExtensionRow, MatrixRow, TileRow};
+use pack::{MatrixRow, TileRow};
 
 mod contents;
 mod extensions;
@@ -12,29 +12,14 @@ mod scan;
 mod sets;
 mod tiles;
 
-pub use contents::{content_passes, first_content, is_of_type};
-pub use extensions::{extension_passes, first_extension, is_text};
-pub use matrices::{at_level, breaks_531, first_matrix, matrix_passes};
+pub use contents::{content_named, first_content_named, first_map, gives_tiles, is_of_type};
+pub use extensions::{first_equal_622, first_free, is_text};
+pub use matrices::{at_level, breaks_531, first_matrix, matrix_named, matrix_passes};
 pub use references::first_id;
-pub use sets::{breaks_162, first_set, set_passes};
+pub use sets::{breaks_162, set_named};
 pub use tiles::{at_address, first_at, first_of_name, tile_named};
 
-// What a rule asks of a contents row.
-#[derive(Clone, Copy)]
-pub enum ContentTest {
-    Named(Name),
-    Tiles(Name),
-    Map,
-}
-
-// Of a set row.
-#[derive(Clone, Copy)]
-pub enum SetTest {
-    Named(Name),
-    Breaks162(ContentsRow),
-}
-
-// Of a matrix row.
+// What a rule asks of a matrix row. An enum, since `passing` and `KeyConfines` of index/specs/Keys say of its values which rows pass.
 #[derive(Clone, Copy)]
 pub enum MatrixTest {
     Named(Name),
@@ -43,11 +28,4 @@ pub enum MatrixTest {
     AtLeast(TileRow),
     Breaks351(MatrixRow),
     Breaks531(MatrixRow),
-}
-
-// Of an extension row.
-#[derive(Clone, Copy)]
-pub enum ExtensionTest {
-    Frees(Name),
-    Equals622(ExtensionRow),
 }

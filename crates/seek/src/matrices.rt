@@ -1,4 +1,4 @@
-// Matrix rows: what the rules ask of one, and the search for the lowest that passes. Numbers are asked before names.
+// Matrix rows: what the rules ask of one, and the search for the lowest that passes a test. Numbers are asked before names.
 ghost use Rattle.std.specs.Prelude.{◌≡◌};
 ghost use Rattle.octets.specs.Search.{first};
 ghost use Rattle.octets.specs.Texts.{spell};
@@ -10,43 +10,37 @@ ghost use Rattle.rules.specs.Tiles.{at_most, at_least};
 ghost use Rattle.seek.specs.Tests.{matrix_passes};
 
 use crate::MatrixTest;
-use listing::Cursor;
 use octets::Name;
 use pack::{MatrixRow, TileRow};
 
-fn matrix_named(names: &[u8], x: Name, q: MatrixRow) -> bool
+#[tactic(auto, unfolding(rules::specs::Matrices::matrix_named, pack::specs::Tables::matrix_of))]
+pub fn matrix_named(names: &[u8], x: Name, q: MatrixRow) -> bool
     ensures { result ≡ matrix_named (spell names.now x) (matrix_of names.now q) }
 {
     octets::same_name(names, x, q.name)
 }
 
+#[tactic(auto, unfolding(rules::specs::Matrices::at_level, pack::specs::Tables::matrix_of))]
 pub fn at_level(names: &[u8], x: Name, zoom: u64, q: MatrixRow) -> bool
     ensures { result ≡ at_level (spell names.now x) (signed zoom) (matrix_of names.now q) }
 {
-    if octets::is_equal(zoom, q.zoom) {
-        return matrix_named(names, x, q);
-    }
-    false
+    octets::is_equal(zoom, q.zoom) && matrix_named(names, x, q)
 }
 
 // ---- 551
 
+#[tactic(auto, unfolding(rules::specs::Tiles::at_most, pack::specs::Tables::matrix_of, pack::specs::Tables::tile_of))]
 fn at_most(names: &[u8], t: TileRow, q: MatrixRow) -> bool
     ensures { result ≡ at_most (tile_of names.now t) (matrix_of names.now q) }
 {
-    if octets::is_less(t.zoom, q.zoom) {
-        return false;
-    }
-    matrix_named(names, t.name, q)
+    !octets::is_less(t.zoom, q.zoom) && matrix_named(names, t.name, q)
 }
 
+#[tactic(auto, unfolding(rules::specs::Tiles::at_least, pack::specs::Tables::matrix_of, pack::specs::Tables::tile_of))]
 fn at_least(names: &[u8], t: TileRow, q: MatrixRow) -> bool
     ensures { result ≡ at_least (tile_of names.now t) (matrix_of names.now q) }
 {
-    if octets::is_less(q.zoom, t.zoom) {
-        return false;
-    }
-    matrix_named(names, t.name, q)
+    !octets::is_less(q.zoom, t.zoom) && matrix_named(names, t.name, q)
 }
 
 // ---- 351
@@ -57,50 +51,34 @@ fn is_near_twice(a: f64, b: f64) -> bool
     doubles::is_near(a, doubles::doubled(b))
 }
 
+#[tactic(auto, unfolding(rules::specs::Matrices::near_twice, pack::specs::Tables::matrix_of))]
 fn near_twice(names: &[u8], m: MatrixRow, q: MatrixRow) -> bool
     ensures { result ≡ near_twice (matrix_of names.now m) (matrix_of names.now q) }
 {
-    if is_near_twice(q.pixel_x, m.pixel_x) {
-        return is_near_twice(q.pixel_y, m.pixel_y);
-    }
-    false
+    is_near_twice(q.pixel_x, m.pixel_x) && is_near_twice(q.pixel_y, m.pixel_y)
 }
 
-#[tactic(auto, using(crate::specs::TestLaws::tests), unfolding(rules::specs::Matrices::breaks351, pack::specs::Tables::matrix_of))]
+#[tactic(auto, unfolding(rules::specs::Matrices::breaks351, pack::specs::Tables::matrix_of))]
 fn breaks_351(names: &[u8], m: MatrixRow, q: MatrixRow) -> bool
     ensures { result ≡ breaks351 (matrix_of names.now m) (matrix_of names.now q) }
 {
-    if octets::is_next(q.zoom, m.zoom) {
-        if near_twice(names, m, q) {
-            return false;
-        }
-        return matrix_named(names, m.name, q);
-    }
-    false
+    octets::is_next(q.zoom, m.zoom) && !near_twice(names, m, q) && matrix_named(names, m.name, q)
 }
 
 // ---- 531
 
-#[tactic(auto, using(crate::specs::TestLaws::tests), unfolding(rules::specs::Matrices::finer, pack::specs::Tables::matrix_of))]
+#[tactic(auto, unfolding(rules::specs::Matrices::finer, pack::specs::Tables::matrix_of))]
 fn is_finer(names: &[u8], m: MatrixRow, q: MatrixRow) -> bool
     ensures { result ≡ finer (matrix_of names.now m) (matrix_of names.now q) }
 {
-    if doubles::is_finer(m.pixel_x, q.pixel_x) {
-        return doubles::is_finer(m.pixel_y, q.pixel_y);
-    }
-    false
+    doubles::is_finer(m.pixel_x, q.pixel_x) && doubles::is_finer(m.pixel_y, q.pixel_y)
 }
 
+#[tactic(auto, unfolding(rules::specs::Matrices::breaks531, pack::specs::Tables::matrix_of))]
 pub fn breaks_531(names: &[u8], m: MatrixRow, q: MatrixRow) -> bool
     ensures { result ≡ breaks531 (matrix_of names.now m) (matrix_of names.now q) }
 {
-    if octets::is_less(q.zoom, m.zoom) {
-        if is_finer(names, m, q) {
-            return false;
-        }
-        return matrix_named(names, m.name, q);
-    }
-    false
+    octets::is_less(q.zoom, m.zoom) && !is_finer(names, m, q) && matrix_named(names, m.name, q)
 }
 
 pub fn matrix_passes(names: &[u8], test: MatrixTest, q: MatrixRow) -> bool
@@ -120,12 +98,8 @@ pub fn matrix_passes(names: &[u8], test: MatrixTest, q: MatrixRow) -> bool
 pub fn first_matrix(matrices: &[u8], names: &[u8], test: MatrixTest, n: usize) -> usize
     ensures { result ≡ first (λ j. matrix_passes names.now test ((matrices_of matrices.now names.now).row j)) n }
 {
-    let mut at = Cursor::new(n);
-    while at.row < at.end {
-        if matrix_passes(names, test, pack::matrix_at(matrices, at.row)) {
-            return at.row;
-        }
-        at = at.next();
-    }
-    at.end
+    octets::first(
+        0..n,
+        |j| matrix_passes(names, test, pack::matrix_at(matrices, j)),
+    )
 }

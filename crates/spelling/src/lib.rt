@@ -2,6 +2,5 @@
 #![tactic(auto)]
 
 pub mod case;
-mod characters;
 pub mod dates;
 pub mod names;

@@ -1,71 +1,28 @@
 -- The cases of the definitions, in the shape in which goals ask for them.
-use Prim.Native.Nat.{ℕ, ◌+◌, ◌*◌, ◌<◌, ◌≤◌}
-use mathlib.Core.Path.{◌≡◌, sym, ap, ◌∙◌, subst}
+use Prim.Native.Nat.{ℕ, ◌+◌, ◌*◌, ◌/◌, ◌<◌, ◌≤◌}
+use mathlib.Core.Path.{◌≡◌, sym, ap, ◌∙◌}
 use mathlib.Core.List.{List, [], ◌∷◌}
 use mathlib.Core.Bool.{Bool, true, false, cond, not, ◌&&◌}
 use native.Mathlib.Omega.{arith}
-use borrow.Author.Tests.{le-leb, eq-eqb, ne_eqb, not-false}
-use lib.Dec.{leb}
+use lib.Dec.{eqb}
+use Rattle.std.proofs.Math.Decide.{dec_le}
+use Rattle.std.proofs.Common.{lt_of_not-le}
+use Rattle.utf8.specs.WellFormedLaws.{size-inside}
+use Rattle.octets.specs.Search.{SoughtAny}
+use Rattle.std.proofs.lemmas.Bool.{not-true}
+use borrow.Author.Tests.{ltb-false}
 use lib.ListN.{length, drop, get_or, get_or-eq_default}
-use mir.Syntax.{w32}
-use mir.Val.{Fits}
-use Rattle.octets.specs.Octets.{part}
-use Rattle.utf8.specs.Utf8.{in_range, size, well_formed}
-use Rattle.utf8.specs.CharacterLaws.{continuation, range_below, one, two, none-low, none-high, size-at}
-use Rattle.utf8.specs.CoverLaws.{Stretch, Ends, stretch_join, ends-past}
-use Rattle.utf8.specs.StepLaws.{second, three_law, four_law, Step, Walking}
-use Rattle.utf8.specs.PlainLaws.{Plain}
-use Rattle.utf8.specs.MarkLaws.{Border, Marks, Clear, clear_plain}
-
-module _ (low high x : ℕ) where
-  pub within_no : x < low → false ≡ in_range low high x
-  within_no l = sym (range_below low high x l)
-
-  pub within_yes : low ≤ x → leb x high ≡ in_range low high x
-  unfolding in_range
-  within_yes l = simp (le-leb low x l)
-
-module _ (a b : ℕ) (r : Bool) where
-  pub second-e0 : a ≡ 0xE0 → r ≡ in_range 0xA0 0xBF b → r ≡ second a b
-  unfolding second
-  second-e0 e h = simp (eq-eqb a 0xE0 e) h
-
-  pub second-ed : (a ≡ 0xE0 → ⊥) → a ≡ 0xED → r ≡ in_range 0x80 0x9F b → r ≡ second a b
-  unfolding second
-  second-ed m e h = simp (ne_eqb a 0xE0 m, eq-eqb a 0xED e) h
-
-  pub second-f0 : (a ≡ 0xE0 → ⊥) → (a ≡ 0xED → ⊥) → a ≡ 0xF0 → r ≡ in_range 0x90 0xBF b → r ≡ second a b
-  unfolding second
-  second-f0 m n e h = simp (ne_eqb a 0xE0 m, ne_eqb a 0xED n, eq-eqb a 0xF0 e) h
-
-  pub second-f4 : (a ≡ 0xE0 → ⊥) → (a ≡ 0xED → ⊥) → (a ≡ 0xF0 → ⊥) → a ≡ 0xF4 → r ≡ in_range 0x80 0x8F b → r ≡ second a b
-  unfolding second
-  second-f4 m n o e h = simp (ne_eqb a 0xE0 m, ne_eqb a 0xED n, ne_eqb a 0xF0 o, eq-eqb a 0xF4 e) h
-
-  pub second-other : (a ≡ 0xE0 → ⊥) → (a ≡ 0xED → ⊥) → (a ≡ 0xF0 → ⊥) → (a ≡ 0xF4 → ⊥) → r ≡ in_range 0x80 0xBF b → r ≡ second a b
-  unfolding second
-  second-other m n o p h = simp (ne_eqb a 0xE0 m, ne_eqb a 0xED n, ne_eqb a 0xF0 o, ne_eqb a 0xF4 p) h
-
-pub ruleset seconds = (second-e0, second-ed, second-f0, second-f4, second-other)
-
--- all of some tests, or one that fails
-module _ (n : ℕ) (a x : Bool) (e : a ≡ x) where
-  pub no_first : (w : Bool) → a ≡ false → 0 ≡ cond (x && w) n 0
-  no_first w f = let q : x ≡ false = sym e ∙ f in simp q
-
-  pub all_two : (b y : Bool) → a ≡ true → b ≡ y → b ≡ true → n ≡ cond (x && (y && true)) n 0
-  all_two b y f g h = let q : x ≡ true = sym e ∙ f in let r : y ≡ true = sym g ∙ h in simp (q, r)
-
-  pub no_next : (b y w : Bool) → a ≡ true → b ≡ y → b ≡ false → 0 ≡ cond (x && (y && w)) n 0
-  no_next b y w f g h = let q : x ≡ true = sym e ∙ f in let r : y ≡ false = sym g ∙ h in simp (q, r)
-
-  pub all_three : (b y c z : Bool) → a ≡ true → b ≡ y → b ≡ true → c ≡ z → c ≡ true → n ≡ cond (x && (y && (z && true))) n 0
-  all_three b y c z f g h i j = let q : x ≡ true = sym e ∙ f in let r : y ≡ true = sym g ∙ h in let s : z ≡ true = sym i ∙ j in simp (q, r, s)
-
-  pub no_last : (b y c z : Bool) → a ≡ true → b ≡ y → b ≡ true → c ≡ z → c ≡ false → 0 ≡ cond (x && (y && (z && true))) n 0
-  no_last b y c z f g h i j = let q : x ≡ true = sym e ∙ f in let r : y ≡ true = sym g ∙ h in let s : z ≡ false = sym i ∙ j in simp (q, r, s)
-
-pub ruleset tests = (no_first, all_two, no_next, all_three, no_last)
+use Rattle.utf8.specs.Utf8.{in_range, size}
+use Rattle.utf8.specs.CharacterLaws.{continuation, range_below, one, two, none-low, none-high, NeverFirst, never-low, never-high, never-at, size-at}
+use Rattle.utf8.specs.CoverLaws.{Stretch, Ends, ends-past}
+use Rattle.utf8.specs.StepLaws.{second, three_law, four_law, Low, low_by, ascii_one, ascii_none, Step, Walking}
+use Rattle.std.specs.Int.{bit_at}
+use Rattle.std.specs.Int.Bits.{bit_and}
+use Rattle.std.proofs.lemmas.Nat.Bits.{bit_at_and, bit_at-zero}
+use borrow.Author.Tests.{eqb-true}
+use mathlib.Core.Path.{refl}
+use Prim.Native.Nat.{min}
+use Rattle.utf8.specs.MarkLaws.{Border, Marks, Clear, clear_plain, between-whole, between-inside, head-none, head_first}
 
 -- ---- the character that four octets begin with
 module _ (a b c d : ℕ) where
@@ -89,38 +46,46 @@ module _ (a b c d : ℕ) where
 
 pub ruleset sizes = (size-one, size_low, size-two, size-three, size-four, size-high)
 
-pub past_end : (s : List ℕ) (p : ℕ) → length s ≤ p → 0 ≡ get_or s p 0
-past_end s p l = sym (get_or-eq_default s 0 l)
-
 pub size-by : (s : List ℕ) (p r b c d : ℕ) → p < length s → b ≡ get_or s (p + 1) 0 → c ≡ get_or s (p + 2) 0 → d ≡ get_or s (p + 3) 0 → r ≡ size (get_or s p 0 ∷ b ∷ c ∷ d ∷ []) → r ≡ size (drop p s)
 size-by s p r b c d l e f g h = h ∙ (cc) ∙ size-at s p l
 
--- ---- what the marks do not show is looked at octet by octet
-pub plain_fits : (s : List ℕ) (n : ℕ) → Plain s n → Fits w32 n
-plain_fits s n h = record { fits = omega (arith, h.small) }
+pub ruleset nevers = (never-low, never-high)
 
-pub plain-not : (s m : List ℕ) (start len : ℕ) (r : Bool) → Marks s m → r ≡ leb (start + len) (get_or m 0 0) → r ≡ true → false ≡ not (well_formed (part s start len))
-plain-not s m start len r k h e = sym (ap not (clear_plain s m start len r k h e).well)
+pub ruleset places = (never-at, size-by)
 
-pub clear_not : (s : List ℕ) (start len : ℕ) (r : Bool) → (r ≡ true → Clear s start len) → r ≡ true → false ≡ not (well_formed (part s start len))
-clear_not s start len r h e = sym (ap not (h e).well)
+-- ---- eight octets at once
+pub low_mask : (w : ℕ) → eqb (bit_and w 0x8080808080808080) 0 ≡ true → Low w
+low_mask w e = low_by w (clear 7 refl) (clear 15 refl) (clear 23 refl) (clear 31 refl) (clear 39 refl) (clear 47 refl) (clear 55 refl) (clear 63 refl)
+  where
+    clear : (i : ℕ) → bit_at 0x8080808080808080 i ≡ 1 → bit_at w i ≡ 0
+    clear i m =
+        let both : min (bit_at w i) (bit_at 0x8080808080808080 i) ≡ 0 = sym (bit_at_and w 0x8080808080808080 i) ∙ ap (λ (n : ℕ). bit_at n i) (eqb-true _ 0 e) ∙ bit_at-zero i in
+        omega (arith, both, m)
 
-pub known_not : (s : List ℕ) (start len : ℕ) (r : Bool) → (r ≡ true → well_formed (part s start len) ≡ true) → r ≡ true → false ≡ not (well_formed (part s start len))
-known_not s start len r h e = sym (ap not (h e))
+pub ruleset plain_steps = (ascii_one, ascii_none)
 
-pub inner-past : (s : List ℕ) (p : ℕ) → length s ≤ p → false ≡ continuation (get_or s p 0)
-inner-past s p l = sym (ap continuation (get_or-eq_default s 0 l) ∙ range_below 0x80 0xBF 0 (omega arith))
+-- ---- what the marks show
+pub inner_past : (s : List ℕ) (p : ℕ) → length s ≤ p → false ≡ continuation (get_or s p 0)
+inner_past s p l = sym (ap continuation (get_or-eq_default s 0 l) ∙ range_below 0x80 0xBF 0 (omega arith))
+
+pub ruleset betweens = (between-whole, between-inside)
+
+pub ruleset heads = (head-none, head_first)
 
 pub walk-border : (s : List ℕ) (a p : ℕ) → Walking s a p → Ends s a → Border s p
 walk-border s a p w e = record { ends = w.ends e; within = w.within }
 
-pub cell_goes : (s : List ℕ) (first c : ℕ) (b : Bool) → Stretch s (8 * first) (8 * c) → (b ≡ true → Stretch s (8 * c) (8 * c + 8)) → not b ≡ false → Stretch s (8 * first) (8 * (c + 1))
-cell_goes s first c b t h e =
-    let n : 8 * c + 8 ≡ 8 * (c + 1) = omega arith in
-    subst (λ (m : ℕ). Stretch s (8 * first) m) n (stretch_join s (8 * first) (8 * c) (8 * c + 8) t (h (not-false b e)))
+-- cells of which a test for one that is not marked finds none
+pub cells_by : (s : List ℕ) (says : ℕ → Bool → Type 0) (first last : ℕ) (b : Bool) → SoughtAny says first last b
+    → ((c : ℕ) → first ≤ c → c < last → says c false → Stretch s (8 * c) (8 * c + 8)) → not b ≡ true → Stretch s (8 * first) (8 * last)
+cells_by s says first last b h cell e =
+    let past : last ≤ h.lowest = ltb-false h.lowest last (sym h.found ∙ not-true b e) in
+    record {
+      each = λ q l m. (cell (q / 8) (omega arith) (omega arith) (h.sought.below (q / 8) (omega arith) (omega (arith, past)))).each q (omega arith) (omega arith);
+    }
 
-pub halts : (s : List ℕ) (p r : ℕ) → Step s p r → r ≡ 0 → size (drop p s) ≡ 0
-halts s p r h e = h.none e
-
-pub ends_next : (s : List ℕ) (z : ℕ) → Border s z → (z < length s → size (drop z s) ≡ 0) → z < length s → Ends s (z + 1)
-ends_next s z b h l = ends-past s z b.ends (h l)
+pub ends_next : (s : List ℕ) (z : ℕ) → Border s z → (z < length s → size (drop z s) ≡ 0) → Ends s (z + 1)
+ends_next s z b h = elim (dec_le (length s) z) [
+  | yes g ↦ ends-past s z b.ends (omega (arith, size-inside s z b.within))
+  | no g ↦ ends-past s z b.ends (h (lt_of_not-le g))
+]

@@ -7,3 +7,4 @@ pub mod PartLaws
 pub mod StepLaws
 pub mod PlainLaws
 pub mod MarkLaws
+pub mod MarkedLaws

@@ -8,6 +8,9 @@ use Rattle.std.proofs.lemmas.List.{get_or-replicate, length-replicate}
 use Rattle.std.proofs.Math.ListN.{get_or-eq_default}
 use Rattle.std.proofs.Math.Pow.{pow-lt, split, high}
 use Rattle.std.proofs.Math.Seq.{set_out}
+use Rattle.std.specs.Int.{w32}
+use Rattle.std.specs.Int.Bits.{bit_or}
+use Rattle.std.proofs.lemmas.Nat.Bits.{bit_at_set_other}
 use Rattle.octets.specs.Octets.{part}
 use Rattle.utf8.specs.Utf8.{well_formed}
 use Rattle.utf8.specs.CharacterLaws.{continuation}
@@ -80,6 +83,12 @@ module _ (w j : ℕ) (h : j < 32) (l : w < 1 * 2 ^ j % 2 ^ 32) where
 
   pub added-fits : w + 1 * 2 ^ j % 2 ^ 32 < 2 ^ 32
   added-fits = subst (λ (n : ℕ). w + n < 2 ^ 32) (sym power) (lt_of_lt_of_le (sum w j (omega (arith, power))) (pow_mono h))
+
+-- the same by a bit that is set
+pub added_bit : (w j : ℕ) → j < 32 → Added w j (bit_or w (1 * 2 ^ j % 2 ^ 32))
+added_bit w j h = record {
+  added = λ k e. elim (ℕ_discrete k j) [ yes q ↦ inl q | no q ↦ inr (sym (bit_at_set_other w32 w j h k q) ∙ e) ];
+}
 
 -- cells as they were, and some that lie between two places
 pub record Filled (from z i old new : ℕ) : Type 0 where

@@ -1,8 +1,9 @@
 -- Octets below 128 are a character each: a text of them is well-formed wherever it begins and ends.
-use Rattle.std.specs.Prelude.{ℕ, suc, ◌+◌, ◌-◌, ◌<◌, ◌≤◌, ◌≡◌, refl, List, [], ◌∷◌, true, length, drop, take, get_or}
-use Rattle.std.proofs.Common.{zero-le, ap, ◌∙◌, not-suc-le-zero, lt_of_not-le, arith, le-leb, length-take, get_or-drop, get_or-take}
+use Rattle.std.specs.Prelude.{ℕ, suc, ◌+◌, ◌-◌, ◌*◌, ◌/◌, ◌<◌, ◌≤◌, ◌≡◌, refl, List, [], ◌∷◌, Bool, true, false, ltb, length, drop, take, get_or}
+use Rattle.std.proofs.Common.{zero-le, ap, ◌∙◌, not-suc-le-zero, lt_of_not-le, arith, le-leb, ltb-true, length-take, length-drop, get_or-drop, get_or-take}
 use Rattle.std.proofs.Math.Decide.{dec_le}
 use Rattle.octets.specs.Octets.{part}
+use Rattle.octets.specs.Search.{Sought}
 use Rattle.octets.specs.SkipLaws.{side}
 use Rattle.utf8.specs.Utf8.{size, well_formed}
 use Rattle.utf8.specs.CharacterLaws.{one}
@@ -64,3 +65,20 @@ module _ (s : List ℕ) where
 
   pub plain_block : (n r : ℕ) → Plain s n → n ≤ 1048576 → 64 ≤ length s - n → AtMost s n (n + 64) r → r ≤ 127 → Plain s (n + 64)
   plain_block n r h m l a b = record { within = omega (arith, h.within); small = omega arith; each = λ k d. side k n (λ c. h.each k c) (λ c. omega (arith, a k c d)) }
+
+  -- some blocks, of which a test says so
+  pub plain_by : (says : ℕ → Bool → Type 0) (n r : ℕ) → Sought says 0 n r → 64 * n ≤ length s → n ≤ 16385 → ((k : ℕ) → k < n → says k false → AtMost s (64 * k) (64 * k + 64) 127) → Plain s (64 * r)
+  plain_by says n r h l m block = record {
+    within = omega (arith, h.most);
+    small = omega (arith, h.most);
+    each = λ j d.
+        let k : j / 64 < r = omega arith in
+        omega (arith, block (j / 64) (omega (arith, h.most)) (h.below (j / 64) zero-le k) j (omega arith) (omega arith));
+  }
+
+  -- a block by the highest of its octets
+  pub block_most : (p e r : ℕ) → p ≤ e → e ≤ length s → AtMost (take (e - p) (drop p s)) 0 (length (take (e - p) (drop p s))) r → ltb r 128 ≡ true → AtMost s p e 127
+  block_most p e r l m h t k u v =
+      let within : k - p < length (take (e - p) (drop p s)) = omega (arith, length-take (e - p) (drop p s), length-drop p s) in
+      let same : get_or (take (e - p) (drop p s)) (k - p) 0 ≡ get_or s k 0 = get_or-take (e - p) (drop p s) (k - p) 0 (omega arith) ∙ get_or-drop p s (k - p) 0 ∙ ap (λ (i : ℕ). get_or s i 0) (omega arith) in
+      omega (arith, same, ltb-true r 128 t, h (k - p) zero-le within)

@@ -6,6 +6,8 @@ mod marks;
 mod steps;
 mod texts;
 
-pub use marks::mark;
 pub use steps::is_well_formed;
-pub use texts::{head_of, is_ill, is_in_head, is_known, is_plain};
+pub use texts::Marked;
+
+// The words that marks take: one, and two for each block of 256 octets of the most that table 7 may have.
+pub const MARK_COUNT: usize = 8193;

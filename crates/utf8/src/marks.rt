@@ -3,27 +3,14 @@ ghost use Rattle.std.specs.Prelude.{◌+◌, ◌<◌, ◌≤◌};
 ghost use Rattle.utf8.specs.CoverLaws.{Stretch};
 ghost use Rattle.utf8.specs.MarkLaws.{Border, Marks, Picked, Added, Filled};
 
+use crate::MARK_COUNT;
 use crate::steps::{plain_end, walk};
 
-// How many octets an entry speaks of, from its block on.
+// How many octets an entry speaks of, from its block on. Marks are words of two numbers in fixed memory: the project has no heap.
 fn span(v: usize, base: usize) -> usize
     requires { base < 2097152 }
 {
-    let start = base + v % 256;
-    let end = v / 256;
-    if end < start {
-        return 0;
-    }
-    end - start
-}
-
-fn past(base: usize, from: usize) -> usize
-    ensures { from ≤ base + result }
-{
-    if from < base {
-        return 0;
-    }
-    from - base
+    (v / 256).saturating_sub(base + v % 256)
 }
 
 // The entry of block i, or that of another stretch where that is longer.
@@ -35,7 +22,7 @@ fn pick(old: u32, i: usize, from: usize, z: usize) -> u32
         return old;
     }
     let base = 256 * i;
-    let off = past(base, from);
+    let off = from.saturating_sub(base);
     if 255 < off {
         return old;
     }
@@ -46,16 +33,12 @@ fn pick(old: u32, i: usize, from: usize, z: usize) -> u32
     new as u32
 }
 
-// A cell more. They are added from the lowest on.
+// A cell more.
 fn with_cell(w: u32, j: u32) -> u32
     requires { j < 32 }
     ensures { Added w j result }
 {
-    let one = 1 << j;
-    if w < one {
-        return w + one;
-    }
-    w
+    w | 1 << j
 }
 
 // The cells of block i, and those of a stretch.
@@ -64,51 +47,33 @@ fn fill(old: u32, i: usize, from: usize, z: usize) -> u32
     ensures { Filled from z i old result }
 {
     let base = 256 * i;
-    let off = past(base, from);
-    if 255 < off {
-        return old;
-    }
+    let off = from.saturating_sub(base);
     let mut w = old;
-    let mut j = (off + 7) / 8;
-    while j < 32 {
+    for j in off.div_ceil(8)..32 {
         if z < base + 8 * j + 8 {
             return w;
         }
         w = with_cell(w, j as u32);
-        j += 1;
     }
     w
 }
 
-// The blocks before an end.
-fn blocks(z: usize) -> usize
-    ensures { result ≤ 4096 }
-{
-    if 1048320 < z {
-        return 4096;
-    }
-    (z + 255) / 256
-}
-
 // Keeps a stretch that has room for a cell: a text in a shorter one is soon read.
-fn keep(s: &[u8], marks: &mut [u32; 8193], from: usize, z: usize)
+fn keep(s: &[u8], marks: &mut [u32; MARK_COUNT], from: usize, z: usize)
     requires { Marks s.now marks.old × Stretch s.now from z × Border s.now z }
     ensures { Marks s.now marks.new }
 {
-    if past(from, z) < 8 {
+    if z.saturating_sub(from) < 8 {
         return;
     }
-    let last = blocks(z);
-    let mut i = from / 256;
-    while i < last {
+    for i in from / 256..z.div_ceil(256).min(4096) {
         marks[2 * i + 1] = pick(marks[2 * i + 1], i, from, z);
         marks[2 * i + 2] = fill(marks[2 * i + 2], i, from, z);
-        i += 1;
     }
 }
 
-// Keeps the stretches of some octets.
-fn keep_all(s: &[u8], marks: &mut [u32; 8193])
+// Keeps the stretches of some octets. No range counts them: each begins behind the last.
+fn keep_all(s: &[u8], marks: &mut [u32; MARK_COUNT])
     requires { Marks s.now marks.old }
     ensures { Marks s.now marks.new }
 {
@@ -116,15 +81,12 @@ fn keep_all(s: &[u8], marks: &mut [u32; 8193])
     while p < s.len() {
         let z = walk(s, p, s.len());
         keep(s, marks, p, z);
-        if s.len() <= z {
-            return;
-        }
         p = z + 1;
     }
 }
 
 // Marks some octets. Where all are ASCII, that is all there is to know.
-pub fn mark(s: &[u8], marks: &mut [u32; 8193])
+pub fn mark(s: &[u8], marks: &mut [u32; MARK_COUNT])
     requires { Marks s.now marks.old }
     ensures { Marks s.now marks.new }
 {

@@ -9,8 +9,7 @@ use Rattle.listing.specs.Listing.{row, most, rows, numbered}
 use Rattle.listing.specs.Header.{start_of, two, pairs}
 use Rattle.listing.specs.Refusals.{text_base, text_count, null_count, faulty_text, faulty_row, lowest_faulty_row, faulty_table, bad_contents, row_reasons}
 use Rattle.writer.specs.Parts.{size_of, count_of, joined, written}
-use Rattle.writer.specs.Writing.{ragged, crowded, size_reasons, write_reasons, write_answer, number_in, table_in, row_in, octets_in}
-use Rattle.writer.specs.declared.Written.{Written}
+use Rattle.writer.specs.Writing.{Written, ragged, crowded, size_reasons, write_reasons, write_answer, number_in, table_in, row_in, octets_in}
 
 -- number, table, row and octets
 abbrev four : Written → List ℕ

@@ -1,6 +1,6 @@
 -- What the writer's answers say: what it writes the reader accepts with the same tables, the tables of an accepted listing write back to it, and each reason is given exactly when its fault is there and no earlier one is.
 use Prim.Native.Nat.{ℕ, zero, suc, ◌*◌, ◌%◌, ◌^◌, ◌<◌, ◌≤◌}
-use Rattle.std.specs.Prelude.{◌≡◌, Bool, ◌&&◌, ◌⊎◌, ◌↔◌, eqb, ltb, get_or, drop}
+use Rattle.std.specs.Prelude.{◌≡◌, Bool, ◌&&◌, ◌⊎◌, ◌↔◌, eqb, ltb, get_or, drop, Ok, Err}
 use Rattle.std.proofs.Math.Path.{refl, sym, ap}
 use Rattle.std.proofs.Common.{◌∙◌, subst}
 use mathlib.Core.List.{List, [], ◌∷◌, ◌++◌}
@@ -18,16 +18,13 @@ use Rattle.listing.specs.Listing.{row, most, version, total, offset, start, tabl
 use Rattle.listing.specs.TableLaws.{Seven}
 use Rattle.listing.specs.Header.{start_of}
 use Rattle.listing.specs.HeaderLaws.{version-read, total-read, count-read}
-use Rattle.listing.specs.Refusals.{over, moved, header_reasons, row_reasons, decide_by, decide, outcome, is_accepted}
+use Rattle.listing.specs.Refusals.{Outcome, over, moved, header_reasons, row_reasons, decide_by, decide, outcome, is_accepted}
 use Rattle.listing.specs.ReasonLaws.{number_at, numbers_of, place_in, distinct, apart_by, answer_by, Free, Given, given_or_none, decide_stop, decide-none, decide-both, decide-turned, Apart, given-exactly, none-given, good-exactly}
-use Rattle.listing.specs.declared.Outcome.{Outcome}
-use Rattle.listing.specs.declared.Outcome.TheVariants as reader
 use Rattle.listing.specs.declared.Format.TheVariants.{Edition1}
+use Rattle.listing.specs.declared.Refusal.{Refusal}
 use Rattle.writer.specs.Parts.{size_of, count_of, joined, written}
 use Rattle.writer.specs.PartLaws.{Sized, written-length, written-most, start_small, count_small, offset-written, start-written, tables-written, written_back}
-use Rattle.writer.specs.Writing.{ragged, crowded, size_reasons, short_reason, write_reasons, room_answer, write_answer, number_in, octets_in, given_of, WriteOf}
-use Rattle.writer.specs.declared.Written.{Written}
-use Rattle.writer.specs.declared.Written.TheVariants.{Octets, Refused}
+use Rattle.writer.specs.Writing.{Written, ragged, crowded, size_reasons, short_reason, write_reasons, room_answer, write_answer, number_in, octets_in, given_of, WriteOf}
 
 -- ---- what the sizes' reasons say
 module _ (ps : ℕ → List ℕ) where
@@ -72,8 +69,8 @@ module _ (ps : ℕ → List ℕ) where
 -- ---- the listing that sized parts make, as the reader sees it
 -- the reader's refusal as the writer's, or else another answer
 abbrev pub refusal_or : Outcome → Written → Written
-refusal_or (reader.Accepted l) o = o
-refusal_or (reader.Refused n t r) o = Refused n t r
+refusal_or (Ok l) o = o
+refusal_or (Err e) o = Err e
 
 -- "5 .. as the reader would give" it: where a count is a word, the reader's own test of the listing put together
 pub count_as_reader : (ps : ℕ → List ℕ) (k : ℕ) → 1 ≤ k → k ≤ 7 → count_of ps k < 2 ^ 32 → over Edition1 (written ps) k ≡ crowded ps k
@@ -125,38 +122,38 @@ module _ (ps : ℕ → List ℕ) (v : Seven ps) (w : Sized ps) where
   header-free (suc (suc (suc (suc (suc (suc i)))))) = refl
 
   -- so its rows alone decide
-  pub rows-decide : outcome (written ps) ≡ decide (row_reasons Edition1 ps) (reader.Accepted (layout (written ps)))
+  pub rows-decide : outcome (written ps) ≡ decide (row_reasons Edition1 ps) (Ok (layout (written ps)))
   unfolding outcome
   rows-decide =
-      decide-both reader.Refused (header_reasons Edition1 (written ps)) (row_reasons Edition1 (table (written ps))) (reader.Accepted (layout (written ps)))
-      ∙ decide-none reader.Refused (header_reasons Edition1 (written ps)) (decide (row_reasons Edition1 (table (written ps))) (reader.Accepted (layout (written ps)))) header-free
-      ∙ ap (λ (ts : ℕ → List ℕ). decide (row_reasons Edition1 ts) (reader.Accepted (layout (written ps)))) (tables-written ps v w)
+      decide-both Err (header_reasons Edition1 (written ps)) (row_reasons Edition1 (table (written ps))) (Ok (layout (written ps)))
+      ∙ decide-none Err (header_reasons Edition1 (written ps)) (decide (row_reasons Edition1 (table (written ps))) (Ok (layout (written ps)))) header-free
+      ∙ ap (λ (ts : ℕ → List ℕ). decide (row_reasons Edition1 ts) (Ok (layout (written ps)))) (tables-written ps v w)
 
   -- "7 and 8 as the reader would give them", and 13 after them: its refusal of the listing put together from the parts, or else what the room says
   pub as_reader : (room : ℕ) → write_answer ps room ≡ refusal_or (outcome (written ps)) (room_answer ps room)
   unfolding write_answer write_reasons room_answer
   as_reader room =
-      decide-both Refused (size_reasons ps) (row_reasons Edition1 ps ++ (short_reason ps room ∷ [])) (Octets (length (written ps)))
-      ∙ decide-none Refused (size_reasons ps) (decide_by Refused (row_reasons Edition1 ps ++ (short_reason ps room ∷ [])) (Octets (length (written ps)))) (sizes-none ps w)
-      ∙ decide-both Refused (row_reasons Edition1 ps) (short_reason ps room ∷ []) (Octets (length (written ps)))
-      ∙ sym (decide-turned reader.Refused Refused (λ (o : Outcome). refusal_or o (room_answer ps room)) (λ n t r. refl) (row_reasons Edition1 ps) (reader.Accepted (layout (written ps))))
+      decide-both Err (size_reasons ps) (row_reasons Edition1 ps ++ (short_reason ps room ∷ [])) (Ok (length (written ps)))
+      ∙ decide-none Err (size_reasons ps) (decide_by Err (row_reasons Edition1 ps ++ (short_reason ps room ∷ [])) (Ok (length (written ps)))) (sizes-none ps w)
+      ∙ decide-both Err (row_reasons Edition1 ps) (short_reason ps room ∷ []) (Ok (length (written ps)))
+      ∙ sym (decide-turned Err Err (λ (o : Outcome). refusal_or o (room_answer ps room)) (λ e. refl) (row_reasons Edition1 ps) (Ok (layout (written ps))))
       ∙ ap (λ (o : Outcome). refusal_or o (room_answer ps room)) (sym rows-decide)
 
 -- ---- a listing that is written
 -- whether it is one
 abbrev pub is_written : Written → Bool
-is_written (Octets n) = true
-is_written (Refused a b c) = false
+is_written (Ok n) = true
+is_written (Err e) = false
 
-module _ (ps : ℕ → List ℕ) (room n : ℕ) (e : write_answer ps room ≡ Octets n) where
+module _ (ps : ℕ → List ℕ) (room n : ℕ) (e : write_answer ps room ≡ Ok n) where
   none : Free (write_reasons ps room)
   unfolding write_answer
-  none = (good-exactly Refused is_written (λ n t r. refl) (write_reasons ps room) (Octets (length (written ps))) refl).0 (ap is_written e)
+  none = (good-exactly Err is_written (λ e. refl) (write_reasons ps room) (Ok (length (written ps))) refl).0 (ap is_written e)
 
   -- so many octets: the listing's
   pub octets-written : n ≡ length (written ps)
   unfolding write_answer
-  octets-written = ap octets_in (sym e ∙ decide-none Refused (write_reasons ps room) (Octets (length (written ps))) none)
+  octets-written = ap octets_in (sym e ∙ decide-none Err (write_reasons ps room) (Ok (length (written ps))) none)
 
   pub octets-sized : ps 0 ≡ [] → Sized ps
   unfolding write_reasons size_reasons
@@ -189,40 +186,40 @@ module _ (ps : ℕ → List ℕ) (room : ℕ) where
   -- reason k of them is given exactly when its fault is there and none before it is, and then with its place
   pub refused-exactly : (k : ℕ) → k < 6 → (number_in (write_answer ps room) ≡ number_at (write_reasons ps room) k) ↔ Given (write_reasons ps room) k
   unfolding write_answer write_reasons size_reasons row_reasons
-  refused-exactly k l = given-exactly Refused number_in (λ n t r. refl) (write_reasons ps room) (place_in (numbers_of (write_reasons ps room))) (Octets (length (written ps))) k apart refl l
+  refused-exactly k l = given-exactly Err number_in (λ e. refl) (write_reasons ps room) (place_in (numbers_of (write_reasons ps room))) (Ok (length (written ps))) k apart refl l
 
-  pub refused-place : (k : ℕ) → Given (write_reasons ps room) k → write_answer ps room ≡ answer_by Refused (write_reasons ps room) k (Octets (length (written ps)))
+  pub refused-place : (k : ℕ) → Given (write_reasons ps room) k → write_answer ps room ≡ answer_by Err (write_reasons ps room) k (Ok (length (written ps)))
   unfolding write_answer
-  refused-place k g = decide_stop Refused (write_reasons ps room) (Octets (length (written ps))) k g.passed g.there
+  refused-place k g = decide_stop Err (write_reasons ps room) (Ok (length (written ps))) k g.passed g.there
 
   -- the parts are written, or refused under one of them
-  pub written_or_refused : (write_answer ps room ≡ Octets (length (written ps))) ⊎ ((k : ℕ) × Given (write_reasons ps room) k)
+  pub written_or_refused : (write_answer ps room ≡ Ok (length (written ps))) ⊎ ((k : ℕ) × Given (write_reasons ps room) k)
   unfolding write_answer
   written_or_refused = by (given_or_none (write_reasons ps room))
     where
-      by : ((k : ℕ) × Given (write_reasons ps room) k) ⊎ Free (write_reasons ps room) → (write_answer ps room ≡ Octets (length (written ps))) ⊎ ((k : ℕ) × Given (write_reasons ps room) k)
+      by : ((k : ℕ) × Given (write_reasons ps room) k) ⊎ Free (write_reasons ps room) → (write_answer ps room ≡ Ok (length (written ps))) ⊎ ((k : ℕ) × Given (write_reasons ps room) k)
       by (inl g) = inr g
-      by (inr f) = inl (decide-none Refused (write_reasons ps room) (Octets (length (written ps))) f)
+      by (inr f) = inl (decide-none Err (write_reasons ps room) (Ok (length (written ps))) f)
 
   -- where no number is given, they are written
-  pub number-none : number_in (write_answer ps room) ≡ 0 → write_answer ps room ≡ Octets (length (written ps))
+  pub number-none : number_in (write_answer ps room) ≡ 0 → write_answer ps room ≡ Ok (length (written ps))
   unfolding write_answer
   number-none e =
-      decide-none Refused (write_reasons ps room) (Octets (length (written ps)))
-      (none-given Refused number_in (λ n t r. refl) (write_reasons ps room) (place_in (numbers_of (write_reasons ps room))) (Octets (length (written ps))) apart e)
+      decide-none Err (write_reasons ps room) (Ok (length (written ps)))
+      (none-given Err number_in (λ e. refl) (write_reasons ps room) (place_in (numbers_of (write_reasons ps room))) (Ok (length (written ps))) apart e)
 
 -- ---- one answer, and one buffer
 pub write_one : (ps : ℕ → List ℕ) (b b₁ b₂ : List ℕ) (r q : Written) → WriteOf ps b r b₁ → WriteOf ps b q b₂ → (r ≡ q) × (b₁ ≡ b₂)
 write_one ps b b₁ b₂ r q x y = (x.answer ∙ sym y.answer, x.buffer ∙ sym y.buffer)
 
 -- "a refusal answers 0 octets and writes nothing"
-pub write_refused : (ps : ℕ → List ℕ) (b b' : List ℕ) (r : Written) (x y z : ℕ) → WriteOf ps b r b' → r ≡ Refused x y z → (octets_in r ≡ 0) × (b' ≡ b)
+pub write_refused : (ps : ℕ → List ℕ) (b b' : List ℕ) (r : Written) (x : Refusal) → WriteOf ps b r b' → r ≡ Err x → (octets_in r ≡ 0) × (b' ≡ b)
 unfolding filled
-write_refused ps b b' r x y z h e = (ap octets_in e, h.buffer ∙ ap (λ (q : Written). filled (given_of ps q) b) (sym h.answer ∙ e))
+write_refused ps b b' r x h e = (ap octets_in e, h.buffer ∙ ap (λ (q : Written). filled (given_of ps q) b) (sym h.answer ∙ e))
 
 -- else the listing stands at the front, and "buffer octets past the listing keep their values"
-pub write_written : (ps : ℕ → List ℕ) (b b' : List ℕ) (r : Written) (n : ℕ) → WriteOf ps b r b' → r ≡ Octets n → b' ≡ written ps ++ drop n b
+pub write_written : (ps : ℕ → List ℕ) (b b' : List ℕ) (r : Written) (n : ℕ) → WriteOf ps b r b' → r ≡ Ok n → b' ≡ written ps ++ drop n b
 unfolding filled
 write_written ps b b' r n h e =
-    let q : write_answer ps (length b) ≡ Octets n = sym h.answer ∙ e in
+    let q : write_answer ps (length b) ≡ Ok n = sym h.answer ∙ e in
     h.buffer ∙ ap (λ (q : Written). filled (given_of ps q) b) q ∙ ap (λ (m : ℕ). written ps ++ drop m b) (sym (octets-written ps (length b) n q))

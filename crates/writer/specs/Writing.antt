@@ -1,15 +1,13 @@
 -- What the writer answers, and what its buffer holds afterwards.
-use Rattle.std.specs.Prelude.{ℕ, ◌%◌, ◌≡◌, List, [], ◌∷◌, ◌++◌, Bool, not, ◌&&◌, eqb, ltb, length}
+use Rattle.std.specs.Prelude.{ℕ, ◌%◌, ◌≡◌, List, [], ◌∷◌, ◌++◌, Bool, not, ◌&&◌, eqb, ltb, length, Result, Ok, Err}
 use Rattle.octets.specs.Octets.{filled}
 use Rattle.octets.specs.Search.{first, any}
 use Rattle.listing.specs.Listing.{row, most}
-use Rattle.listing.specs.Refusals.{Reason, row_reasons, decide_by}
+use Rattle.listing.specs.Refusals.{Reason, row_reasons, decide_by, number_of, table_of, row_of}
 use Rattle.listing.specs.declared.Format.TheVariants.{Edition1}
+use Rattle.listing.specs.declared.Why.TheVariants as why
+use Rattle.listing.specs.declared.Refusal.{Refusal}
 use Rattle.writer.specs.Parts.{size_of, count_of, written}
-use Rattle.writer.specs.declared.Flaw.{Flaw}
-use Rattle.writer.specs.declared.Flaw.TheVariants.{Ragged, Crowded}
-use Rattle.writer.specs.declared.Written.{Written}
-use Rattle.writer.specs.declared.Written.TheVariants.{Octets, Refused}
 
 -- ---- the reasons
 -- 11: "a part that isn't whole rows"
@@ -20,60 +18,55 @@ ragged ps k = ltb 0 k && not (eqb (size_of ps k % row k) 0)
 unfoldable pub crowded : (ℕ → List ℕ) → ℕ → Bool
 crowded ps k = ltb 0 k && ltb (most k) (count_of ps k)
 
--- either, as the code asks for it
-unfoldable pub flawed : Flaw → (ℕ → List ℕ) → ℕ → Bool
-flawed Ragged ps = ragged ps
-flawed Crowded ps = crowded ps
-
 -- 11 "comes first", "then 5"; their place is "the first such table, 0"
 unfoldable pub size_reasons : (ℕ → List ℕ) → List Reason
 size_reasons ps =
-    record { number = 11; there = any (ragged ps) 8; at_table = first (ragged ps) 8; at_row = 0 }
-    ∷ record { number = 5; there = any (crowded ps) 8; at_table = first (crowded ps) 8; at_row = 0 }
+    record { why = why.Ragged; there = any (ragged ps) 8; at_table = first (ragged ps) 8; at_row = 0 }
+    ∷ record { why = why.Count; there = any (crowded ps) 8; at_table = first (crowded ps) 8; at_row = 0 }
     ∷ []
 
 -- "12, buffer too short (place 0 0)"
 abbrev pub short_reason : (ℕ → List ℕ) → ℕ → Reason
-short_reason ps room = record { number = 12; there = ltb room (length (written ps)); at_table = 0; at_row = 0 }
+short_reason ps room = record { why = why.Room; there = ltb room (length (written ps)); at_table = 0; at_row = 0 }
 
 -- between them "7 and 8 as the reader would give them", and 13 "after 8 and before 12"
 unfoldable pub write_reasons : (ℕ → List ℕ) → ℕ → List Reason
 write_reasons ps room = size_reasons ps ++ (row_reasons Edition1 ps ++ (short_reason ps room ∷ []))
 
--- ---- the answer: the first reason that is there, or the octets of the listing
+-- ---- the answer: the first reason that is there, or how many octets the listing has
+abbrev pub Written : Type 0
+Written = Result ℕ Refusal
+
 unfoldable pub write_answer : (ℕ → List ℕ) → ℕ → Written
-write_answer ps room = decide_by Refused (write_reasons ps room) (Octets (length (written ps)))
+write_answer ps room = decide_by Err (write_reasons ps room) (Ok (length (written ps)))
 
 -- what is left to answer where 11 and 5 are not there, and where no reason of the rows is
 unfoldable pub room_answer : (ℕ → List ℕ) → ℕ → Written
-room_answer ps room = decide_by Refused (short_reason ps room ∷ []) (Octets (length (written ps)))
+room_answer ps room = decide_by Err (short_reason ps room ∷ []) (Ok (length (written ps)))
 
 unfoldable pub sized_answer : (ℕ → List ℕ) → ℕ → Written
-sized_answer ps room = decide_by Refused (row_reasons Edition1 ps) (room_answer ps room)
+sized_answer ps room = decide_by Err (row_reasons Edition1 ps) (room_answer ps room)
 
 -- the number of an answer, 0 where it is no refusal; its place, and the octets written
 abbrev pub number_in : Written → ℕ
-number_in (Octets n) = 0
-number_in (Refused a b c) = a
+number_in r = number_of r
 
 abbrev pub table_in : Written → ℕ
-table_in (Octets n) = 0
-table_in (Refused a b c) = b
+table_in r = table_of r
 
 abbrev pub row_in : Written → ℕ
-row_in (Octets n) = 0
-row_in (Refused a b c) = c
+row_in r = row_of r
 
 -- "a refusal answers 0 octets"
 abbrev pub octets_in : Written → ℕ
-octets_in (Octets n) = n
-octets_in (Refused a b c) = 0
+octets_in (Ok n) = n
+octets_in (Err e) = 0
 
 -- ---- the buffer
 -- what is put at its front: the listing, or nothing where it is refused
 abbrev pub given_of : (ℕ → List ℕ) → Written → List ℕ
-given_of ps (Octets n) = written ps
-given_of ps (Refused a b c) = []
+given_of ps (Ok n) = written ps
+given_of ps (Err e) = []
 
 -- b is the buffer before and b' after: "buffer octets past the listing keep their values; a refusal .. writes nothing"
 pub record WriteOf (ps : ℕ → List ℕ) (b : List ℕ) (r : Written) (b' : List ℕ) : Type 0 where

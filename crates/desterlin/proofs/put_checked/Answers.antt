@@ -1,10 +1,8 @@
 -- `desterlin::put_checked` meets its contract.
-use Rattle.desterlin.proofs.Laws.{checked-words}
-use borrow.Author.Rules.{rules}
+use Rattle.std.proofs.Common.{refl}
+use Rattle.desterlin.specs.Calls.{checked_words}
+use Rattle.desterlin.proofs.Laws.{refused_words}
 use Rattle.desterlin.proofs.put_checked.Goals as goal
 
-pub returns-in-Clean : goal.returns-in-Clean
-returns-in-Clean c = search (checked-words, rules)
-
-pub returns-in-Fault : goal.returns-in-Fault
-returns-in-Fault c = search (checked-words, rules)
+pub returns-in-Err : goal.returns-in-Err
+returns-in-Err c = refused_words _ _ _ c.in-Err.is c.from-number.ensures checked_words _ _ _ refl c.put_words-in-Err.ensures

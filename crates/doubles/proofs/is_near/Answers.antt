@@ -20,14 +20,10 @@ pub float_to_bits-b : goal.float_to_bits-b
 unfolding near
 float_to_bits-b c = search (no_nan, rules)
 
-pub steps-requires : goal.steps-requires
-unfolding near
-steps-requires c = search rules
-
 pub returns-then-is_positive-2 : goal.returns-then-is_positive-2
 unfolding near
 returns-then-is_positive-2 c = rw (← c.is_positive.ensures, c.if-is_positive.true, ← c.is_positive-then-is_positive.ensures, c.if-is_positive-2.true)
-    (rw c.steps.ensures)
+    (rw c.abs_diff.ensures)
 
 pub returns-else-is_positive-2 : goal.returns-else-is_positive-2
 unfolding near

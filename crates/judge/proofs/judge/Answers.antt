@@ -6,4 +6,4 @@ use borrow.Author.Rules.{rules}
 use Rattle.judge.proofs.judge.Goals as goal
 
 pub returns-in_default : goal.returns-in_default
-returns-in_default c = no_table (pack_in c.args.form (map (λ x. x.now) c.args.tables)) _ _ _ c.requires.table_value (search rules)
+returns-in_default c = no_table (pack_in c.args.ready.tables.form (map (λ x. x.now) c.args.ready.tables.slices)) _ _ _ c.requires (search rules)

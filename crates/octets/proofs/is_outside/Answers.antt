@@ -2,4 +2,4 @@
 use Rattle.octets.proofs.is_outside.Goals as goal
 
 pub returns : goal.returns
-returns c = simp c.in-Octets.is
+returns c = simp c.in-Some.is

@@ -1,13 +1,7 @@
 -- `survey::see_names` meets its contract.
-use Rattle.survey.proofs.Looking.{look_start, look_end, more-name}
 use borrow.Author.Rules.{rules}
+use Rattle.survey.proofs.Looking.{quiet_sought, name_said, hit_said}
 use Rattle.survey.proofs.see_names.Goals as goal
 
-pub loop-i-init : goal.loop-i-init
-loop-i-init c = search (look_start, rules)
-
-pub loop-i-preserved : goal.loop-i-preserved
-loop-i-preserved c = search (more-name, rules)
-
 pub returns : goal.returns
-returns c = search (look_end, rules)
+returns c = quiet_sought _ _ _ _ _ (λ i r l h. search (hit_said, name_said, rules)) c.any.ensures (search rules)

@@ -3,14 +3,14 @@ use Rattle.columns.proofs.Laws.{names-most, tiles-most, accept_refused, accept_f
 use borrow.Author.Rules.{rules}
 use Rattle.columns.proofs.check.accept.Goals as goal
 
-pub check-said-requires : goal.check-said-requires
-check-said-requires c = search (names-most, tiles-most, rules)
+pub returns-in_err-layout : goal.returns-in_err-layout
+returns-in_err-layout c = search (accept_refused, c.in_err-layout.was, rules)
 
-pub returns-in-Refused : goal.returns-in-Refused
-returns-in-Refused c = search (accept_refused, rules)
+pub check-requires : goal.check-requires
+check-requires c = search (names-most, tiles-most, c.in_ok-layout.was, rules)
 
-pub returns-in-Fault : goal.returns-in-Fault
-returns-in-Fault c = search (accept_fault, rules)
+pub returns-in_err-check : goal.returns-in_err-check
+returns-in_err-check c = search (accept_fault, c.in_ok-layout.was, c.in_err-check.was, rules)
 
-pub returns-in-Clean : goal.returns-in-Clean
-returns-in-Clean c = search (accept_clean, rules)
+pub returns : goal.returns
+returns c = search (accept_clean, c.in_ok-layout.was, c.in_ok-check.was, rules)

@@ -1,12 +1,8 @@
 -- `columns::entries::first_faulty` meets its contract.
 use Rattle.octets.proofs.SearchLaws.{seeks}
-use Rattle.utf8.specs.MarkLaws.{marks_none}
 use Rattle.columns.proofs.Laws.{skip_on, skip_next}
 use borrow.Author.Rules.{rules}
 use Rattle.columns.proofs.entries.first_faulty.Goals as goal
-
-pub mark-requires : goal.mark-requires
-mark-requires c = search (marks_none, rules)
 
 pub loop-i-init : goal.loop-i-init
 loop-i-init c = search (skip_on, seeks)
@@ -16,6 +12,3 @@ returns-then-is_faulty c = search seeks
 
 pub loop-i-preserved : goal.loop-i-preserved
 loop-i-preserved c = search (skip_next, rules)
-
-pub returns : goal.returns
-returns c = search seeks

@@ -1,6 +1,6 @@
 -- `columns::filling::fill_entries` meets its contract.
 use native.Mathlib.Omega.{arith}
-use Rattle.columns.specs.FillLaws.{tile-inside, filling_none, filling_length, filling_room, filling_whole, firsts_more, numbers_more}
+use Rattle.columns.specs.FillLaws.{tile-inside, filling_none, filling_room, filling_whole, firsts_more, numbers_more}
 use borrow.Author.Rules.{rules}
 use Rattle.columns.proofs.filling.fill_entries.Goals as goal
 
@@ -26,18 +26,6 @@ loop-i-preserved c = let count = c.requires.count in (
   numbers_more _ _ _ count c.loop-i-test.true _ _ _ 1 (omega arith) c.loop-i.invariant.2 c.copy_entry-in-loop-i-2.ensures,
   numbers_more _ _ _ count c.loop-i-test.true _ _ _ 2 (omega arith) c.loop-i.invariant.3 c.copy_entry-in-loop-i-3.ensures,
 )
-
-pub shape_of-firsts : goal.shape_of-firsts
-shape_of-firsts c = search (filling_length, rules)
-
-pub shape_of-zooms : goal.shape_of-zooms
-shape_of-zooms c = search (filling_length, rules)
-
-pub shape_of-columns : goal.shape_of-columns
-shape_of-columns c = search (filling_length, rules)
-
-pub shape_of-rows : goal.shape_of-rows
-shape_of-rows c = search (filling_length, rules)
 
 pub returns : goal.returns
 returns c = record {

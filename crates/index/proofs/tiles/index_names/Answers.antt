@@ -10,22 +10,13 @@ pub returns-then-heads-eq0 : goal.returns-then-heads-eq0
 returns-then-heads-eq0 c = keyed_none c.if-heads-eq0.true
 
 pub loop-i-init : goal.loop-i-init
-loop-i-init c = (omega arith, keyed_start (rw c.tile_count-n.ensures at c.start-heads.ensures.1), refl)
+loop-i-init c = (keyed_start (rw c.tile_count-n.ensures at c.start-heads.ensures.1), refl)
 
 pub enter_name-requires : goal.enter_name-requires
-enter_name-requires c = (omega (arith, c.if-heads-eq0.false), c.loop-i.invariant.1, omega (arith, c.tile_count-n.ensures))
-
-pub overflow_add-i : goal.overflow_add-i
-overflow_add-i c = omega arith
-
-pub loop-i-smaller : goal.loop-i-smaller
-loop-i-smaller c = omega arith
+enter_name-requires c = (omega (arith, c.if-heads-eq0.false), c.loop-i.invariant.0, omega (arith, c.tile_count-n.ensures))
 
 pub loop-i-preserved : goal.loop-i-preserved
-loop-i-preserved c = (omega arith, c.enter_name.ensures, search rules)
-
-pub shape_of-work : goal.shape_of-work
-shape_of-work c = omega arith
+loop-i-preserved c = (c.enter_name.ensures, search rules)
 
 pub returns : goal.returns
-returns c = keyed_all c.loop-i.invariant.1 (omega (arith, c.tile_count-n.ensures))
+returns c = keyed_all c.loop-i.invariant.0 (omega (arith, c.tile_count-n.ensures))

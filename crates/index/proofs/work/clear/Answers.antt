@@ -1,37 +1,13 @@
--- `index::work/clear` meets its contract.
-use mathlib.Core.Path.{refl, ◌∙◌}
-use native.Mathlib.Omega.{arith}
-use borrow.Author.Count.{below_none, below_more}
-use lib.ListN.{length-set}
-use lib.Seq.{get_or-set_same, get_or-set_other}
+-- `index::work::clear` meets its contract.
+use Rattle.std.proofs.Common.{◌≡◌, ◌*◌, length, ◌∙◌, arith}
+use Rattle.std.proofs.lemmas.List.{get_or-replicate, get_or_append_left, length-append, length-take-le}
 use Rattle.index.proofs.Words.{word-zero}
 use Rattle.index.proofs.work.clear.Goals as goal
 
-pub overflow_mul-end : goal.overflow_mul-end
-overflow_mul-end c = omega arith
-
-pub loop-k-init : goal.loop-k-init
-loop-k-init c = (refl, omega arith, below_none _)
-
-pub bounds-w-k : goal.bounds-w-k
-bounds-w-k c = omega arith
-
-pub overflow_add-k : goal.overflow_add-k
-overflow_add-k c = omega arith
-
-pub loop-k-smaller : goal.loop-k-smaller
-loop-k-smaller c = omega arith
-
-pub loop-k-preserved : goal.loop-k-preserved
-loop-k-preserved c = let w = c.loop-k.w in
-    let k = c.loop-k.k in (
-      simp length-set c.loop-k.invariant.0,
-      omega arith,
-      below_more _ _ (λ j b. get_or-set_other w k j 0 0 (λ q. omega arith) ∙ c.loop-k.invariant.2 j b) (get_or-set_same w k 0 0 (omega arith)),
-    )
-
-pub shape_of-w : goal.shape_of-w
-shape_of-w c = omega arith
-
 pub returns : goal.returns
-returns c = λ h b. word-zero c.loop-k.w h c.args.heads b (omega arith) (λ j l. c.loop-k.invariant.2 j (omega arith))
+returns c = let size = length-take-le _ _ c.requires in
+    let front = c.fill.new.self in
+    let all : length front ≡ 4 * c.args.heads = c.fill.ensures.len ∙ size in
+    let zero = rw size at (c.fill.ensures.after (λ y e. e)) in
+    λ h b. word-zero _ h c.args.heads b (simp length-append (omega (arith, all)))
+    (λ k l. get_or_append_left front _ 0 k (omega (arith, all)) ∙ rw zero (get_or-replicate (4 * c.args.heads) k 0 0 l))

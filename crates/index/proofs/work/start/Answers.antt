@@ -1,4 +1,4 @@
--- `index::work/start` meets its contract.
+-- `index::work::start` meets its contract.
 use native.Mathlib.Omega.{arith}
 use Rattle.index.proofs.Words.{heads_fit, ready_clear}
 use Rattle.index.proofs.work.start.Goals as goal

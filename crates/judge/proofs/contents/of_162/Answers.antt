@@ -1,24 +1,18 @@
 -- `judge::contents/of_162` meets its contract.
-use Rattle.rules.specs.Contents.{of162}
-use borrow.Author.Rules.{rules}
+use Rattle.std.proofs.Common.{rules, refl, ◌≡◌, length, ◌/◌}
+use Rattle.octets.specs.Search.{first}
+use Rattle.octets.proofs.SearchLaws.{first_by}
+use Rattle.pack.specs.Tables.{content_of, sets_of}
+use Rattle.rules.specs.Contents.{breaks162, of162}
 use Rattle.judge.proofs.contents.of_162.Goals as goal
 
-pub is_of_type-requires : goal.is_of_type-requires
+pub returns-then-not-is_of_type : goal.returns-then-not-is_of_type
 unfolding of162
-is_of_type-requires c = search rules
-
-pub first_162-requires : goal.first_162-requires
-unfolding of162
-first_162-requires c = search rules
-
-pub partner_of-requires : goal.partner_of-requires
-unfolding of162
-partner_of-requires c = search rules
-
-pub returns-then-is_of_type : goal.returns-then-is_of_type
-unfolding of162
-returns-then-is_of_type c = simp (← c.is_of_type.ensures, c.if-is_of_type.true, ← c.first_162.ensures) c.partner_of.ensures
+returns-then-not-is_of_type c = simp (← c.is_of_type.ensures, c.if-not-is_of_type.true)
 
 pub returns : goal.returns
-unfolding of162
-returns c = simp (← c.is_of_type.ensures, c.if-is_of_type.false)
+unfolding of162 first
+returns c =
+    let a = c.args in
+    let e : c.first-first.result ≡ first (λ j. breaks162 (content_of a.names.now a.c) ((sets_of a.sets.now a.names.now).row j)) (length a.sets.now / 48) = first_by _ _ _ _ refl (λ k b s l h. search rules) _ c.first-first.ensures in
+    simp (← c.is_of_type.ensures, c.if-not-is_of_type.false, ← e) c.partner_of.ensures

@@ -8,4 +8,4 @@ pub returns-in_default : goal.returns-in_default
 returns-in_default c = simp (c.in_default.is, no_name_lem)
 
 pub returns : goal.returns
-returns c = rw c.in-Octets.is (c.is_extension_name.ensures ∙ ap is_extension_name c.part_of.ensures)
+returns c = rw c.in-Some.is (c.is_extension_name.ensures ∙ ap is_extension_name c.spelled.ensures)

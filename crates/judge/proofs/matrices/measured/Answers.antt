@@ -1,26 +1,15 @@
 -- `judge::matrices::measured` meets its contract.
+use Rattle.std.proofs.Common.{ap, ◌∙◌}
 use borrow.Author.Tests.{lt-ltb, le-ltb}
 use Rattle.pack.specs.Tables.{set_of}
+use Rattle.rules.specs.Judgments.{fault_if}
 use Rattle.rules.specs.Matrices.{measured}
-use borrow.Author.Rules.{rules}
 use Rattle.judge.proofs.matrices.measured.Goals as goal
-
-pub set_at-q-requires : goal.set_at-q-requires
-unfolding measured set_of
-set_at-q-requires c = search rules
-
-pub does_fit-requires : goal.does_fit-requires
-unfolding measured set_of
-does_fit-requires c = search rules
-
-pub fault_if-requires : goal.fault_if-requires
-unfolding measured set_of
-fault_if-requires c = search rules
-
-pub returns-then-k-sets : goal.returns-then-k-sets
-unfolding measured set_of
-returns-then-k-sets c = simp (lt-ltb _ _ c.if-k-sets.true, ← c.set_at-q.ensures, ← c.does_fit.ensures) c.fault_if.ensures
+use Rattle.judge.proofs.matrices.measured.Goals.{then-k-n, else-k-n}
 
 pub returns : goal.returns
 unfolding measured set_of
-returns c = simp (le-ltb _ _ c.if-k-sets.false)
+returns c = elim c.if-k-n.branch [
+  | then-k-n w ↦ simp (lt-ltb _ _ w.if-k-n.true, ← w.set_at.ensures, ← w.does_fit.ensures) (c.fault_if.ensures ∙ ap fault_if w.fault_if-is)
+  | else-k-n w ↦ simp (le-ltb _ _ w.if-k-n.false) (c.fault_if.ensures ∙ ap fault_if (w.fault_if-is ∙ le-ltb _ _ w.if-k-n.false))
+]

@@ -2,12 +2,6 @@
 use Rattle.judge.proofs.Laws.{searches}
 use Rattle.judge.proofs.tiles.has_level.Goals as goal
 
-pub overflow_cast-n : goal.overflow_cast-n
-overflow_cast-n c = search searches
-
-pub nonzero_div-n : goal.nonzero_div-n
-nonzero_div-n c = search searches
-
 pub lowest-requires : goal.lowest-requires
 lowest-requires c = record { shelves = c.requires.shelves; key_confines = c.requires.confines }
 

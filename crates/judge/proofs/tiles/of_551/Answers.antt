@@ -4,17 +4,9 @@ use Rattle.judge.specs.RangeLaws.{inside_551}
 use borrow.Author.Rules.{rules}
 use Rattle.judge.proofs.tiles.of_551.Goals as goal
 
-pub first_level-requires : goal.first_level-requires
-unfolding tile_of
-first_level-requires c = search rules
-
 pub returns-then-first_level-n : goal.returns-then-first_level-n
 unfolding tile_of
 returns-then-first_level-n c = inside_551 _ _ _ c.first_level.ensures c.if-first_level-n.true
-
-pub of_range-requires : goal.of_range-requires
-unfolding tile_of
-of_range-requires c = search rules
 
 pub returns : goal.returns
 unfolding tile_of

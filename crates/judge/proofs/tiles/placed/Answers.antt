@@ -1,25 +1,14 @@
 -- `judge::tiles::placed` meets its contract.
+use Rattle.std.proofs.Common.{ap, ◌∙◌}
 use borrow.Author.Tests.{lt-ltb, le-ltb}
+use Rattle.rules.specs.Judgments.{fault_if}
 use Rattle.rules.specs.Tiles.{placed}
-use borrow.Author.Rules.{rules}
 use Rattle.judge.proofs.tiles.placed.Goals as goal
-
-pub matrix_at-requires : goal.matrix_at-requires
-unfolding placed
-matrix_at-requires c = search rules
-
-pub is_off_along-requires : goal.is_off_along-requires
-unfolding placed
-is_off_along-requires c = search rules
-
-pub fault_if-requires : goal.fault_if-requires
-unfolding placed
-fault_if-requires c = search rules
-
-pub returns-then-k-matrices : goal.returns-then-k-matrices
-unfolding placed
-returns-then-k-matrices c = simp (lt-ltb _ _ c.if-k-matrices.true, ← c.matrix_at.ensures, ← c.is_off_along.ensures) c.fault_if.ensures
+use Rattle.judge.proofs.tiles.placed.Goals.{then-k-n, else-k-n}
 
 pub returns : goal.returns
 unfolding placed
-returns c = simp (le-ltb _ _ c.if-k-matrices.false)
+returns c = elim c.if-k-n.branch [
+  | then-k-n w ↦ simp (lt-ltb _ _ w.if-k-n.true, ← w.matrix_at.ensures, ← w.is_off_along.ensures) (c.fault_if.ensures ∙ ap fault_if w.fault_if-is)
+  | else-k-n w ↦ simp (le-ltb _ _ w.if-k-n.false) (c.fault_if.ensures ∙ ap fault_if (w.fault_if-is ∙ le-ltb _ _ w.if-k-n.false))
+]

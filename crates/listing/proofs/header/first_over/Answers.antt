@@ -1,32 +1,14 @@
--- `listing::header/first_over` meets its contract.
-use Rattle.octets.proofs.SearchLaws.{seeks}
-use Rattle.listing.proofs.Laws.{seek-all, past_last, over_none}
+-- `listing::header::first_over` meets its contract.
+use mathlib.Core.Path.{ap}
+use Prim.Native.Nat.{ℕ, ◌+◌}
+use native.Mathlib.Omega.{arith}
+use Rattle.listing.proofs.Laws.{first-table, over_none}
 use borrow.Author.Rules.{rules}
 use Rattle.listing.proofs.header.first_over.Goals as goal
 
-pub table_count-end-requires : goal.table_count-end-requires
-table_count-end-requires c = search seeks
-
-pub overflow_add-end : goal.overflow_add-end
-overflow_add-end c = search (past_last, seeks)
-
-pub loop-k-init : goal.loop-k-init
-loop-k-init c = search (seek-all, over_none, rules)
-
-pub is_over-requires : goal.is_over-requires
-is_over-requires c = search (past_last, seeks)
-
-pub returns-then-is_over : goal.returns-then-is_over
-returns-then-is_over c = search (past_last, seeks)
-
-pub overflow_add-k : goal.overflow_add-k
-overflow_add-k c = search (past_last, seeks)
-
-pub loop-k-smaller : goal.loop-k-smaller
-loop-k-smaller c = search (past_last, seeks)
-
-pub loop-k-preserved : goal.loop-k-preserved
-loop-k-preserved c = search (past_last, seeks)
-
 pub returns : goal.returns
-returns c = search (past_last, seeks)
+returns c =
+    let d = ap (λ (n : ℕ). n + 1) c.table_count.ensures.0 in (
+      first-table _ (over_none _ _) _ _ _ _ d c.first.ensures (λ k b s l h. search rules),
+      omega (arith, c.first.ensures.most),
+    )

@@ -7,7 +7,7 @@ pub returns-then-offset_of-start_of : goal.returns-then-offset_of-start_of
 returns-then-offset_of-start_of c = search (moved_yes, rules)
 
 pub returns-then-k-last : goal.returns-then-k-last
-returns-then-k-last c = search (moved_no, rules)
+returns-then-k-last c = search (moved-end, rules)
 
-pub returns : goal.returns
-returns c = search (moved-end, rules)
+pub returns-else-k-last : goal.returns-else-k-last
+returns-else-k-last c = search (moved_no, rules)

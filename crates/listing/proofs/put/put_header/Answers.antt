@@ -6,11 +6,11 @@ use borrow.Author.Rules.{rules}
 use Rattle.listing.proofs.put.put_header.Goals as goal
 
 pub loop-k-init : goal.loop-k-init
-loop-k-init c = (omega arith, omega arith, search rules, search rules, search (header-one, rules))
+loop-k-init c = (search rules, search rules, search (header-one, rules))
 
 pub loop-k-preserved : goal.loop-k-preserved
 loop-k-preserved c = let l = c.loop-k in
-    (omega arith, omega arith, l.invariant.2, search rules, header-more _ _ _ l.k _ _ _ _ _ l.invariant.4 l.invariant.0 (omega arith) c.wide-in-loop-k.ensures.0 c.start_by-in-loop-k.ensures.0 c.put_pair-in-loop-k.ensures)
+    (l.invariant.0, search rules, header-more _ _ _ l.k _ _ _ _ _ l.invariant.2 (omega arith) (omega arith) (search rules) c.start_by-in-loop-k.ensures.0 c.put_pair-in-loop-k.ensures)
 
 pub returns : goal.returns
-returns c = search (header-whole, rules)
+returns c = search (header-whole, c.loop-k.auto.k-end, rules)

@@ -1,5 +1,5 @@
 -- What the loops of `listing::put::put_header` keep.
-use Prim.Native.Nat.{◌-◌, ◌≤◌}
+use Prim.Native.Nat.{◌≤◌}
 use mathlib.Core.Path.{◌≡◌}
 use lib.ListN.{length}
 use Rattle.octets.specs.Octets.{filled}
@@ -7,7 +7,4 @@ use Rattle.listing.specs.Header.{listed, pairs}
 use Rattle.listing.proofs.put.put_header.Given as goal
 
 abbrev pub invariant-loop-k : goal.invariant-loop-k
-invariant-loop-k l = (1 ≤ l.k) × (l.k ≤ 8) × (64 ≤ length l.initial.out) × (length l.out ≡ length l.initial.out) × (l.out ≡ filled (pairs l.version (listed l.counts) (listed l.sizes) l.k) l.initial.out)
-
-abbrev pub decreases-loop-k : goal.decreases-loop-k
-decreases-loop-k l = 8 - l.k
+invariant-loop-k l = (64 ≤ length l.initial.out) × (length l.out ≡ length l.initial.out) × (l.out ≡ filled (pairs l.version (listed l.counts) (listed l.sizes) l.k) l.initial.out)

@@ -4,14 +4,6 @@ use Rattle.listing.specs.Header.{two}
 use borrow.Author.Rules.{rules}
 use Rattle.listing.proofs.put.put_pair.Goals as goal
 
-pub put_word-requires : goal.put_word-requires
-unfolding two
-put_word-requires c = search rules
-
-pub put_word-requires-2 : goal.put_word-requires-2
-unfolding two
-put_word-requires-2 c = search rules
-
 pub returns : goal.returns
 unfolding two
 returns c = search (put_two, rules)

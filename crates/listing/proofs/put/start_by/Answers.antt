@@ -1,6 +1,6 @@
 -- `listing::put::start_by` meets its contract.
 use Rattle.listing.specs.HeaderLaws.{start-next}
-use Rattle.listing.proofs.Laws.{start_none, start-whole}
+use Rattle.listing.proofs.Laws.{start_none}
 use borrow.Author.Rules.{rules}
 use Rattle.listing.proofs.put.start_by.Goals as goal
 
@@ -9,6 +9,3 @@ loop-i-init c = search (start_none, rules)
 
 pub loop-i-preserved : goal.loop-i-preserved
 loop-i-preserved c = search (start-next, rules)
-
-pub returns : goal.returns
-returns c = search (start-whole, rules)

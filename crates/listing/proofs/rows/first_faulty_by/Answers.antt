@@ -35,6 +35,3 @@ loop-c-smaller c = search (roomy-same, room-step, room-place, room_texts, rules)
 
 pub loop-c-preserved : goal.loop-c-preserved
 loop-c-preserved c = search (faulty_row_lem, passed_on, cursors)
-
-pub returns : goal.returns
-returns c = search seeks

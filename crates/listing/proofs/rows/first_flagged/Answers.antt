@@ -1,32 +1,18 @@
 -- `listing::rows/first_flagged` meets its contract.
-use Rattle.octets.proofs.SearchLaws.{seeks}
-use Rattle.octets.specs.SearchLaws.{cursors}
+use mathlib.Core.Path.{refl, ap, ◌∙◌}
+use Rattle.octets.specs.Search.{first}
+use Rattle.octets.proofs.SearchLaws.{first_by}
+use Rattle.listing.specs.Refusals.{flagged}
 use Rattle.listing.proofs.Laws.{second-some, flags-inside}
+use borrow.Author.Rules.{rules}
 use Rattle.listing.proofs.rows.first_flagged.Goals as goal
 
 pub rows_as-requires : goal.rows_as-requires
-rows_as-requires c = search (second-some, cursors)
+rows_as-requires c = search (second-some, rules)
 
-pub new-c-requires : goal.new-c-requires
-new-c-requires c = search cursors
-
-pub loop-c-init : goal.loop-c-init
-loop-c-init c = search cursors
-
-pub is_flagged-requires : goal.is_flagged-requires
-is_flagged-requires c = search (flags-inside, cursors)
-
-pub returns-then-is_flagged : goal.returns-then-is_flagged
-returns-then-is_flagged c = search seeks
-
-pub next-c-requires : goal.next-c-requires
-next-c-requires c = search (second-some, flags-inside, cursors)
-
-pub loop-c-smaller : goal.loop-c-smaller
-loop-c-smaller c = search (second-some, flags-inside, cursors)
-
-pub loop-c-preserved : goal.loop-c-preserved
-loop-c-preserved c = search (second-some, flags-inside, cursors)
+pub first-requires : goal.first-requires
+first-requires c = search (flags-inside, rules)
 
 pub returns : goal.returns
-returns c = search seeks
+unfolding first
+returns c = first_by (flagged c.args.f c.args.table.now) _ _ _ refl (λ k b s l h. search rules) _ c.first.ensures ∙ ap (first (flagged c.args.f c.args.table.now)) c.rows_as.ensures

@@ -8,9 +8,3 @@ is_bad_contents-requires c = search (contents-end, rules)
 
 pub is_bad_link-requires : goal.is_bad_link-requires
 is_bad_link-requires c = search (link-end, rules)
-
-pub returns-in-Edition1 : goal.returns-in-Edition1
-returns-in-Edition1 c = cc
-
-pub returns-in-Metadata : goal.returns-in-Metadata
-returns-in-Metadata c = cc

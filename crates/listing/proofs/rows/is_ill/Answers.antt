@@ -6,4 +6,4 @@ pub returns-in_default : goal.returns-in_default
 returns-in_default c = simp c.in_default.is null-well
 
 pub returns : goal.returns
-returns c = simp c.in-Octets.is c.is_ill.ensures
+returns c = simp c.in-Some.is c.is_ill.ensures

@@ -1,28 +1,11 @@
 -- `metadata::judging/of_995` meets its contract.
+use Rattle.std.proofs.Common.{ap, ◌∙◌}
+use Rattle.rules.specs.Judgments.{fault_if}
+use Rattle.metadata.specs.Tables.{link_of}
 use Rattle.metadata.specs.Rules.{of995}
-use borrow.Author.Rules.{rules}
+use Rattle.metadata.proofs.Laws.{some_number, wrong_null}
 use Rattle.metadata.proofs.judging.of_995.Goals as goal
 
-pub scope_of-requires : goal.scope_of-requires
-unfolding of995
-scope_of-requires c = search rules
-
-pub wants_no_row-shall-requires : goal.wants_no_row-shall-requires
-unfolding of995
-wants_no_row-shall-requires c = search rules
-
-pub lacks_row-requires : goal.lacks_row-requires
-unfolding of995
-lacks_row-requires c = search rules
-
-pub is_wrongly-requires : goal.is_wrongly-requires
-unfolding of995
-is_wrongly-requires c = search rules
-
-pub fault_if-requires : goal.fault_if-requires
-unfolding of995
-fault_if-requires c = search rules
-
 pub returns : goal.returns
-unfolding of995
-returns c = cc
+unfolding link_of of995
+returns c = simp (← c.scope_of.ensures, ← c.wants_no_row.ensures) (c.fault_if.ensures ∙ ap fault_if (wrong_null _ _ _ _ c.is_none.ensures (some_number _)))

@@ -1,24 +1,12 @@
 -- `metadata::scopes/has_note_scope` meets its contract.
-use Rattle.octets.proofs.SearchLaws.{seeks}
+use Rattle.std.proofs.Common.{rules, tests, ◌∙◌}
+use Rattle.std.proofs.lemmas.Iterator.{YieldsList-from_slice}
+use Rattle.std.proofs.lemmas.Iterator.Search.{any_from_yields_List}
+use Rattle.octets.specs.Texts.{same}
+use Rattle.metadata.specs.Rules.{note_scopes, is_note_scope}
+use Rattle.metadata.proofs.Laws.{any_listed}
 use Rattle.metadata.proofs.scopes.has_note_scope.Goals as goal
 
-pub loop-k-init : goal.loop-k-init
-loop-k-init c = search seeks
-
-pub is_note_scope-requires : goal.is_note_scope-requires
-is_note_scope-requires c = search seeks
-
-pub returns-then-is_note_scope : goal.returns-then-is_note_scope
-returns-then-is_note_scope c = search seeks
-
-pub overflow_add-k : goal.overflow_add-k
-overflow_add-k c = search seeks
-
-pub loop-k-smaller : goal.loop-k-smaller
-loop-k-smaller c = search seeks
-
-pub loop-k-preserved : goal.loop-k-preserved
-loop-k-preserved c = search seeks
-
 pub returns : goal.returns
-returns c = search seeks
+unfolding note_scopes is_note_scope
+returns c = any_from_yields_List (λ y. same c.args.x.now y.now) _ _ c.any.result c.any.ensures.ran (YieldsList-from_slice _ c.iter.ensures.rest) (λ x b q k. search (rules, tests)) ∙ any_listed (same c.args.x.now) note_scopes

@@ -1,25 +1,18 @@
 -- `metadata::tables/accept` meets its contract.
-use Rattle.listing.proofs.FurtherLaws.{answer-refused, answer_fault, answer-clean}
+use Rattle.listing.proofs.FurtherLaws.{answer-clean}
 use Rattle.metadata.specs.Refusals.{metadata_outcome}
+use Rattle.metadata.proofs.Laws.{refused_on, fault_on}
 use borrow.Author.Rules.{rules}
 use Rattle.metadata.proofs.tables.accept.Goals as goal
 
-pub accept-outcome-requires : goal.accept-outcome-requires
+pub returns-in_err-layout : goal.returns-in_err-layout
 unfolding metadata_outcome
-accept-outcome-requires c = search rules
+returns-in_err-layout c = search (refused_on, c.in_err-layout.was, rules)
 
-pub check-said-requires : goal.check-said-requires
+pub returns-in_err-check : goal.returns-in_err-check
 unfolding metadata_outcome
-check-said-requires c = search rules
+returns-in_err-check c = search (fault_on, c.in_ok-layout.was, c.in_err-check.was, rules)
 
-pub returns-in-Refused : goal.returns-in-Refused
+pub returns : goal.returns
 unfolding metadata_outcome
-returns-in-Refused c = search (answer-refused, rules)
-
-pub returns-in-Fault : goal.returns-in-Fault
-unfolding metadata_outcome
-returns-in-Fault c = search (answer_fault, rules)
-
-pub returns-in-Clean : goal.returns-in-Clean
-unfolding metadata_outcome
-returns-in-Clean c = search (answer-clean, rules)
+returns c = search (answer-clean, c.in_ok-layout.was, c.in_ok-check.was, rules)

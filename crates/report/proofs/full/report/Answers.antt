@@ -1,10 +1,13 @@
 -- `report::full::report` meets its contract.
-use Rattle.report.specs.PromiseLaws.{cut_accepted, report_listing}
 use borrow.Author.Rules.{rules}
+use Rattle.report.proofs.Answering.{listing_refused, listing_numbered, listing_done}
 use Rattle.report.proofs.full.report.Goals as goal
 
-pub report_by-requires : goal.report_by-requires
-report_by-requires c = search (cut_accepted, rules)
+pub returns-in_err-accept : goal.returns-in_err-accept
+returns-in_err-accept c = search (listing_refused, c.in_err-accept.was, rules)
+
+pub report_pack-requires : goal.report_pack-requires
+report_pack-requires c = search (listing_numbered, c.in_ok-accept.was, rules)
 
 pub returns : goal.returns
-returns c = search (report_listing, rules)
+returns c = search (listing_done, c.in_ok-accept.was, rules)

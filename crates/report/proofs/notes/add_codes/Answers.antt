@@ -1,6 +1,6 @@
--- `report::notes/add_codes` meets its contract.
-use Rattle.report.specs.NoteLaws.{places_none, places_room, places_more, places_end}
+-- `report::notes::add_codes` meets its contract.
 use borrow.Author.Rules.{rules}
+use Rattle.report.specs.NoteLaws.{places_none, places_room, places_more, places_end}
 use Rattle.report.proofs.notes.add_codes.Goals as goal
 
 pub loop-k-init : goal.loop-k-init

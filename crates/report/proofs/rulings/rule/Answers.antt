@@ -7,7 +7,7 @@ use borrow.Author.Rules.{rules}
 use Rattle.report.proofs.rulings.rule.Goals as goal
 
 pub add_code-t-requires : goal.add_code-t-requires
-add_code-t-requires c = record { surveyed = c.unknown.ensures (pack_in c.args.form (map (λ x. x.now) c.args.tables)); numbered = c.requires.numbered; table_value = c.requires.table_value; total_bound = omega arith }
+add_code-t-requires c = record { surveyed = c.unknown.ensures (pack_in c.args.tables.form (map (λ x. x.now) c.args.tables.slices)); numbered = c.requires.numbered; table_value = c.requires.table_value; total_bound = omega arith }
 
 pub returns-then-t-ne0 : goal.returns-then-t-ne0
 returns-then-t-ne0 c = search (rule_fail, rules)

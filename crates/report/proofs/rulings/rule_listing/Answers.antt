@@ -1,10 +1,10 @@
 -- `report::rulings::rule_listing` meets its contract.
-use Rattle.report.specs.PromiseLaws.{cut_numbered, cut_ruled}
 use borrow.Author.Rules.{rules}
+use Rattle.report.proofs.Answering.{accepted_numbered, accepted-ruled}
 use Rattle.report.proofs.rulings.rule_listing.Goals as goal
 
 pub rule-requires : goal.rule-requires
-rule-requires c = search (cut_numbered, rules)
+rule-requires c = search (accepted_numbered, rules)
 
 pub returns : goal.returns
-returns c = search (cut_ruled, rules)
+returns c = search (accepted-ruled, rules)

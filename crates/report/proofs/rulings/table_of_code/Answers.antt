@@ -1,16 +1,14 @@
 -- `report::rulings::table_of_code` meets its contract.
-use Rattle.report.proofs.Codes.{sought_start, sought_hit, sought_more, sought_end}
 use borrow.Author.Rules.{rules}
+use mathlib.Core.Path.{◌∙◌}
+use Rattle.report.proofs.Codes.{found-table, found-listed, not_listed}
 use Rattle.report.proofs.rulings.table_of_code.Goals as goal
 
-pub loop-k-init : goal.loop-k-init
-loop-k-init c = search (sought_start, rules)
+pub returns-then-k-lt-CODE_COUNT : goal.returns-then-k-lt-CODE_COUNT
+returns-then-k-lt-CODE_COUNT c = (
+  c.table_at.ensures ∙ found-table c.args.code _ _ c.first-k.ensures (λ i b l h. search rules) c.if-k-lt-CODE_COUNT.true,
+  rw c.table_at.ensures (found-listed c.args.code _ _ c.first-k.ensures (λ i b l h. search rules) c.if-k-lt-CODE_COUNT.true),
+)
 
-pub returns-then-code-code_at : goal.returns-then-code-code_at
-returns-then-code-code_at c = search (sought_hit, rules)
-
-pub loop-k-preserved : goal.loop-k-preserved
-loop-k-preserved c = search (sought_more, rules)
-
-pub returns : goal.returns
-returns c = search (sought_end, rules)
+pub returns-else-k-lt-CODE_COUNT : goal.returns-else-k-lt-CODE_COUNT
+returns-else-k-lt-CODE_COUNT c = not_listed c.args.code _ _ c.first-k.ensures (λ i b l h. search rules) c.if-k-lt-CODE_COUNT.false

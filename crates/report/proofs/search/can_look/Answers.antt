@@ -6,14 +6,6 @@ use Rattle.findings.specs.Answers.{can_look}
 use borrow.Author.Rules.{rules}
 use Rattle.report.proofs.search.can_look.Goals as goal
 
-pub contents_at-c-requires : goal.contents_at-c-requires
-unfolding can_look of_type content_of
-contents_at-c-requires c = search rules
-
-pub is_name-requires : goal.is_name-requires
-unfolding can_look of_type content_of
-is_name-requires c = search rules
-
 pub returns-then-k-contents : goal.returns-then-k-contents
 unfolding can_look of_type content_of
 returns-then-k-contents c = row_yes _ _ _ _ c.if-k-contents.true (rw c.contents_at-c.ensures at c.is_name.ensures)

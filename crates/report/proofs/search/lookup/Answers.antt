@@ -1,6 +1,10 @@
 -- `report::search::lookup` meets its contract.
-use Rattle.report.proofs.Looking.{lookup_listing}
+use borrow.Author.Rules.{rules}
+use Rattle.report.proofs.Answering.{lookup_refused, listing_looked}
 use Rattle.report.proofs.search.lookup.Goals as goal
 
+pub returns-in_err-accept : goal.returns-in_err-accept
+returns-in_err-accept c = search (lookup_refused, c.in_err-accept.was, rules)
+
 pub returns : goal.returns
-returns c = lookup_listing _ _ _ _ _ _ _ _ c.accept-outcome.ensures c.cut.ensures c.look_by.ensures
+returns c = search (listing_looked, c.in_ok-accept.was, rules)

@@ -1,5 +1,4 @@
--- What the loops of `report::tiles::add_541` keep.
-use Prim.Native.Nat.{◌-◌}
+-- What the loop of `report::tiles::add_541` keeps.
 use mathlib.Core.Path.{◌≡◌}
 use mathlib.Core.List.{map}
 use lib.ListN.{length}
@@ -10,7 +9,4 @@ use Rattle.report.specs.WalkLaws.{Walking}
 use Rattle.report.proofs.tiles.add_541.Given as goal
 
 abbrev pub invariant-loop-i : goal.invariant-loop-i
-invariant-loop-i l = Walking (at541 (tiles_in l.form (map (λ x. x.now) l.tables) l.names)) l.initial.out l.initial.tally l.n l.i l.out l.tally × Addresses (tiles_in l.form (map (λ x. x.now) l.tables) l.names) l.work l.heads l.i × (length l.work ≡ length l.initial.work)
-
-abbrev pub decreases-loop-i : goal.decreases-loop-i
-decreases-loop-i l = l.n - l.i
+invariant-loop-i l = Walking (at541 (tiles_in l.tables.form (map (λ x. x.now) l.tables.slices) l.names)) l.initial.out l.initial.tally l.n l.i l.out l.tally × Addresses (tiles_in l.tables.form (map (λ x. x.now) l.tables.slices) l.names) l.work l.heads l.i × (length l.work ≡ length l.initial.work)

@@ -6,8 +6,8 @@ use Rattle.seek.proofs.scan.skip_there.Goals as goal
 pub skip_rows-requires : goal.skip_rows-requires
 skip_rows-requires c = search (room-rows, rules)
 
-pub skip_entries-requires : goal.skip_entries-requires
-skip_entries-requires c = search (room-columns, room-lines, rules)
+pub invariant_of-skip : goal.invariant_of-skip
+invariant_of-skip c = search (room-columns, room-lines, rules)
 
 pub returns-in-Rows : goal.returns-in-Rows
 returns-in-Rows c = search (pass_rows, rules)

@@ -1,24 +1,20 @@
 -- `spelling::names::is_extension_name` meets its contract.
-use Rattle.spelling.specs.ExtensionNames.{is_extension_name}
-use borrow.Author.Rules.{rules}
+use Rattle.std.proofs.Common.{◌≡◌, rules, refl, length, arith}
+use Rattle.std.proofs.lemmas.Grind.{common_steps}
+use Rattle.octets.specs.Search.{first, any}
+use Rattle.octets.proofs.SearchLaws.{any_by, first_by}
+use Rattle.spelling.specs.ExtensionNames.{strange_at, first_underscore, underscore_at, inside, is_extension_name}
 use Rattle.spelling.proofs.names.is_extension_name.Goals as goal
 
-pub first_underscore-requires : goal.first_underscore-requires
-unfolding is_extension_name
-first_underscore-requires c = search rules
+pub returns-then-underscore-s : goal.returns-then-underscore-s
+unfolding first is_extension_name inside underscore_at strange_at
+returns-then-underscore-s c =
+    let f : c.first-underscore.result ≡ first_underscore c.args.s.now = first_by _ _ _ _ refl (λ k b s l h. search rules) _ c.first-underscore.ensures in
+    let e : c.any.result ≡ any (strange_at c.args.s.now) (length c.args.s.now) = any_by _ _ _ _ refl (λ k b s l h. search rules) _ c.any.ensures in
+    grind (arith, common_steps)
 
-pub is_inside-requires : goal.is_inside-requires
-unfolding is_extension_name
-is_inside-requires c = search rules
-
-pub has_strange-requires : goal.has_strange-requires
-unfolding is_extension_name
-has_strange-requires c = search rules
-
-pub returns-then-is_inside : goal.returns-then-is_inside
-unfolding is_extension_name
-returns-then-is_inside c = simp (← c.first_underscore.ensures, ← c.is_inside.ensures, c.if-is_inside.true, c.has_strange.ensures)
-
-pub returns : goal.returns
-unfolding is_extension_name
-returns c = simp (← c.first_underscore.ensures, ← c.is_inside.ensures, c.if-is_inside.false)
+pub returns-else-underscore-s : goal.returns-else-underscore-s
+unfolding first is_extension_name inside underscore_at
+returns-else-underscore-s c =
+    let f : c.first-underscore.result ≡ first_underscore c.args.s.now = first_by _ _ _ _ refl (λ k b s l h. search rules) _ c.first-underscore.ensures in
+    grind (arith, common_steps)

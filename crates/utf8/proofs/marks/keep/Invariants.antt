@@ -1,10 +1,6 @@
 -- What the loops of `utf8::marks::keep` keep.
-use Prim.Native.Nat.{◌-◌}
 use Rattle.utf8.specs.MarkLaws.{Marks}
 use Rattle.utf8.proofs.marks.keep.Given as goal
 
 abbrev pub invariant-loop-i : goal.invariant-loop-i
 invariant-loop-i l = Marks l.s l.marks
-
-abbrev pub decreases-loop-i : goal.decreases-loop-i
-decreases-loop-i l = l.last - l.i

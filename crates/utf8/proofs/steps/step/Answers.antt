@@ -6,5 +6,5 @@ use Rattle.utf8.proofs.steps.step.Goals as goal
 pub returns-then-k-gt0 : goal.returns-then-k-gt0
 returns-then-k-gt0 c = search (step_ascii, rules)
 
-pub returns : goal.returns
-returns c = search (step-one, rules)
+pub returns-else-k-gt0 : goal.returns-else-k-gt0
+returns-else-k-gt0 c = search (step-one, rules)

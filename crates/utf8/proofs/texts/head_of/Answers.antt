@@ -1,10 +1,8 @@
 -- `utf8::texts::head_of` meets its contract.
-use Rattle.utf8.specs.MarkLaws.{head-none, head_first}
+use mathlib.Core.Path.{refl}
+use Rattle.utf8.specs.MarkLaws.{head_first}
 use borrow.Author.Rules.{rules}
 use Rattle.utf8.proofs.texts.head_of.Goals as goal
 
-pub returns-then-v-ne0 : goal.returns-then-v-ne0
-returns-then-v-ne0 c = search (head-none, rules)
-
-pub returns : goal.returns
-returns c = search (head_first, rules)
+pub returns-then-v-eq0 : goal.returns-then-v-eq0
+returns-then-v-eq0 c = head_first _ _ _ c.requires refl (search rules) (search rules)

@@ -1,5 +1,4 @@
 -- `writer::parts::put_parts` meets its contract.
-use native.Mathlib.Omega.{arith}
 use Rattle.writer.proofs.Laws.{at_none_lem, part_none, part_room, part-fits, at_more, part-more, parts_whole}
 use borrow.Author.Rules.{rules}
 use Rattle.writer.proofs.parts.put_parts.Goals as goal
@@ -15,7 +14,7 @@ overflow_add-at c = search (part-fits, rules)
 
 pub loop-k-preserved : goal.loop-k-preserved
 loop-k-preserved c = let l = c.loop-k in
-    (omega arith, omega arith, search rules, search (at_more, rules), part-more _ _ _ _ l.at l.k l.invariant.3 c.table_at-part.ensures c.loop-k-test.true _ l.invariant.4 c.put_octets.ensures)
+    (search (at_more, rules), search rules, part-more _ _ _ _ l.at l.k l.invariant.0 c.table_at-part.ensures c.loop-k-test.true _ l.invariant.2 c.put_octets.ensures)
 
 pub returns : goal.returns
-returns c = search (parts_whole, rules)
+returns c = search (parts_whole, c.loop-k.auto.k-end, rules)

@@ -4,11 +4,11 @@ use Rattle.writer.proofs.Laws.{rows_fault, rows-clean}
 use borrow.Author.Rules.{rules}
 use Rattle.writer.proofs.refusals.sized_answer.Goals as goal
 
-pub check_rows-said-requires : goal.check_rows-said-requires
-check_rows-said-requires c = search (sized-short, rules)
+pub check_rows-requires : goal.check_rows-requires
+check_rows-requires c = search (sized-short, rules)
 
-pub returns-in-Fault : goal.returns-in-Fault
-returns-in-Fault c = search (rows_fault, rules)
+pub returns-in_err-check_rows : goal.returns-in_err-check_rows
+returns-in_err-check_rows c = search (rows_fault, c.in_err-check_rows.was, rules)
 
-pub returns-in-Clean : goal.returns-in-Clean
-returns-in-Clean c = search (rows-clean, rules)
+pub returns : goal.returns
+returns c = search (rows-clean, c.in_ok-check_rows.was, rules)

@@ -1,9 +1,0 @@
--- `columns::check::column_of` meets its contract.
-use mathlib.Core.Path.{sym}
-use Rattle.octets.specs.Slices.{nth}
-use Rattle.octets.specs.SliceLaws.{behind}
-use Rattle.columns.proofs.check.column_of.Goals as goal
-
-pub returns : goal.returns
-unfolding nth
-returns c = sym (behind (λ x. x.now) c.args.columns c.args.k _)

@@ -1,0 +1,9 @@
+-- What the loop of `input::read` keeps, and what grows less with each turn.
+use Rattle.std.proofs.Common.{◌≤◌, ◌-◌, length}
+use Rattle.input.proofs.read.Given as goal
+
+abbrev pub invariant-loop-done : goal.invariant-loop-done
+invariant-loop-done g l = l.done ≤ length l.buffer
+
+abbrev pub decreases-loop-done : goal.decreases-loop-done
+decreases-loop-done g l = length l.buffer - l.done

@@ -1,9 +1,0 @@
--- `judge::judgments::fault_if` meets its contract.
-
-use Rattle.judge.proofs.judgments.fault_if.Goals as goal
-
-pub returns-then-fault : goal.returns-then-fault
-returns-then-fault c = simp c.if-fault.true
-
-pub returns-else-fault : goal.returns-else-fault
-returns-else-fault c = simp c.if-fault.false

@@ -1,9 +1,0 @@
--- `pack::tables::slice_of` meets its contract.
-use mathlib.Core.Path.{sym}
-use Rattle.octets.specs.Slices.{nth}
-use Rattle.octets.specs.SliceLaws.{behind}
-use Rattle.pack.proofs.tables.slice_of.Goals as goal
-
-pub returns : goal.returns
-unfolding nth
-returns c = sym (behind (λ x. x.now) c.args.tables c.args.k _)

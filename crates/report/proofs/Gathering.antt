@@ -1,0 +1,36 @@
+-- A walk over rows by a rule of which nothing is known but what it may say.
+use Rattle.std.specs.Prelude.{ℕ, ◌+◌, ◌^◌, ◌<◌, ◌≤◌, ◌≡◌, List, length, None, Some}
+use Rattle.std.proofs.Common.{sym, ap, subst, arith}
+use Rattle.octets.specs.Gather.{gather}
+use Rattle.rules.specs.Judgments.{Judgment}
+use Rattle.findings.specs.Findings.{Finding, found}
+use Rattle.report.specs.Buffers.{Added}
+use Rattle.report.specs.BufferLaws.{added_none, added_more}
+use Rattle.report.specs.Walks.{Gathers}
+use Rattle.report.specs.declared.Tally.{Tally}
+
+-- it has come to row i, and has added a finding of each row before it at the most
+pub record Gathering (says : ℕ → Judgment → Type 0) (code : ℕ) (b : List ℕ) (t : Tally) (i : ℕ) (b' : List ℕ) (t' : Tally) : Type 0 where
+  pub gathers : Gathers says code i b t b' t'
+  pub few : t'.total ≤ t.total + i
+
+found-one : (c i : ℕ) (v : Judgment) → length (found c i v) ≤ 1
+found-one c i None = omega arith
+found-one c i (Some j) = omega arith
+
+module _ (says : ℕ → Judgment → Type 0) (code : ℕ) (b : List ℕ) (t : Tally) where
+  pub gather_start : Gathering says code b t 0 b t
+  gather_start = record { gathers = record { added = λ f h. added_none b t }; few = omega arith }
+
+  module _ (i : ℕ) (b₁ : List ℕ) (t₁ : Tally) (w : Gathering says code b t i b₁ t₁) where
+    pub gather-room : (n : ℕ) → i < n → t.total + n < 2 ^ 64 → t₁.total + 1 < 2 ^ 64
+    gather-room n l h = omega (arith, w.few)
+
+    pub gather_more : (v : Judgment) (b₂ : List ℕ) (t₂ : Tally) → says i v → Added (found code i v) b₁ t₁ b₂ t₂ → Gathering says code b t (i + 1) b₂ t₂
+    gather_more v b₂ t₂ s a = record {
+      gathers = record {
+        added = λ f h. added_more i (λ j. found code j (f j)) (w.gathers.added f (λ j u l. h j u (omega arith)))
+            (subst (λ (u : Judgment). Added (found code i u) b₁ t₁ b₂ t₂) (h i v (omega arith) s) a);
+      };
+      few = omega (arith, w.few, a.count, found-one code i v);
+    }

@@ -1,0 +1,13 @@
+-- `report::buffer::add_rows` meets its contract.
+use borrow.Author.Rules.{rules}
+use Rattle.report.proofs.Gathering.{gather_start, gather-room, gather_more}
+use Rattle.report.proofs.buffer.add_rows.Goals as goal
+
+pub loop-i-init : goal.loop-i-init
+loop-i-init g c = search (gather_start, rules)
+
+pub add-tally-requires : goal.add-tally-requires
+add-tally-requires g c = search (gather-room, rules)
+
+pub loop-i-preserved : goal.loop-i-preserved
+loop-i-preserved g c = search (gather_more, rules)
