@@ -89,7 +89,16 @@ fn skip_clear(firsts: &[u8], names: &Marked, start: usize, n: usize) -> usize
         row: i,
         end: n.min(i + STRETCH),
     };
-    let j = listing::skip_clear(TextOrder::LengthFirst, ENTRY, firsts, names, from).row;
+    let j = listing::skip_clear(
+        TextOrder::LengthFirst,
+        ENTRY.row as usize,
+        ENTRY.base as usize,
+        ENTRY.texts as usize,
+        firsts,
+        names,
+        from,
+    )
+    .row;
     if j <= i {
         return j;
     }

@@ -155,12 +155,8 @@ fn put_checked(answer: &mut [u8], said: Result<(), Refusal>)
     match said {
         Ok(()) => put_words(answer, 0, [0, 0, 0]),
         Err(refusal) => {
-            let number = u32::from(refusal.why) as usize;
-            put_words(
-                answer,
-                0,
-                [number, refusal.table as usize, refusal.row as usize],
-            );
+            let number = u32::from(refusal.why);
+            report::put_refusal(answer, 0, number, refusal.table, refusal.row);
         }
     }
 }

@@ -36,7 +36,7 @@ pub fn of_151(names: &[u8], c: ContentsRow) -> Judgment
 pub fn of_161(references: &[u8], names: &[u8], c: ContentsRow) -> Judgment
     ensures { result ≡ of161 (references_of references.now names.now) (content_of names.now c) }
 {
-    lacks_id(references, names, c.srs_id?)
+    lacks_id(references, names, c.present_srs_id()?)
 }
 
 // Every row of both tables is met.

@@ -21,7 +21,7 @@ mod tiles;
 use contents::judge_contents;
 use extensions::judge_extension;
 use matrices::judge_matrix;
-pub use plans::Ready;
+pub use plans::{Ready, prepare, prepare_more};
 use references::{MINUS_ONE, judge_reference, lacks_id};
 use sets::judge_set;
 use tiles::judge_tile;

@@ -23,7 +23,7 @@ fn plan_of(code: u32) -> Plan
 }
 
 // Makes the first index for a code, and answers how many heads it has.
-fn prepare(tables: Tables, work: &mut [u8], code: u32) -> usize
+pub fn prepare(tables: Tables, work: &mut [u8], code: u32) -> usize
     ensures { Prepared (plan_of code) (map (λ x. x.now) tables.entry.slices) work.new result }
 {
     let contents = tables.slice_of(CONTENTS);
@@ -41,7 +41,7 @@ fn prepare(tables: Tables, work: &mut [u8], code: u32) -> usize
 }
 
 // Makes the second, and answers how many heads that one has. A function beside the first: each writes its own octets, and has its own contract.
-fn prepare_more(tables: Tables, work: &mut [u8], code: u32) -> usize
+pub fn prepare_more(tables: Tables, work: &mut [u8], code: u32) -> usize
     ensures { PreparedMore (plan_of code) tables.entry.form (map (λ x. x.now) tables.entry.slices) work.new result }
 {
     let names = tables.slice_of(NAMES);

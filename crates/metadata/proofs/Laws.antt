@@ -17,15 +17,16 @@ use lib.Dec.{ltb}
 use lib.ListN.{length}
 use Rattle.octets.specs.Search.{first, any}
 use Rattle.octets.specs.Octets.{part}
+use Rattle.octets.specs.Numbers.{signed}
 use Rattle.octets.specs.Slices.{nth}
-use Rattle.octets.specs.Texts.{reads}
+use Rattle.octets.specs.Texts.{reads, There, Null}
 use Rattle.octets.specs.Texts.{Text}
 use Rattle.listing.specs.Refusals.{Reason, Checked, Outcome, checked, outcome, outcome_with}
 use Rattle.listing.specs.declared.Layout.{Layout}
 use Rattle.listing.specs.declared.Refusal.{Refusal}
 use Rattle.listing.proofs.FurtherLaws.{answer-refused, answer_fault}
 use Rattle.listing.proofs.Outcomes.{handed}
-use Rattle.pack.specs.Tables.{signed_or_null, contents_of}
+use Rattle.pack.specs.Tables.{contents_of}
 use Rattle.rules.specs.Judgments.{none, unless_some, Judgment}
 use Rattle.rules.specs.JudgmentLaws.{searched}
 use Rattle.rules.specs.Contents.{content_named}
@@ -86,9 +87,10 @@ pub some_read : (names : List ℕ) (t : Text) → is_some t ≡ not (is_null (re
 some_read names (Some x) = refl
 some_read names None = refl
 
-pub some_number : (t : Option ℕ) → is_some t ≡ not (is_null (signed_or_null t))
-some_number (Some x) = refl
-some_number None = refl
+-- a number that is absent where b holds
+pub some_number : (b : Bool) (x : ℕ) (t : Option ℕ) → t ≡ cond b None (Some x) → is_some t ≡ not (is_null (cond b Null (There (signed x))))
+some_number true x t e = ap is_some e
+some_number false x t e = ap is_some e
 
 not_alike : (a b : Bool) → not a ≡ not b → a ≡ b
 not_alike true true e = refl

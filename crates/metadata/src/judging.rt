@@ -74,7 +74,7 @@ pub fn of_975(contents: &[u8], names: &[u8], index: Index, others: &[u8], l: Lin
 pub fn of_995(names: &[u8], l: LinkRow) -> Judgment
     ensures { result ≡ of995 (link_of names.now l) }
 {
-    fault_if(scope_of(names, l).wants_no_row() != l.row_id.is_none())
+    fault_if(scope_of(names, l).wants_no_row() != l.present_row_id().is_none())
 }
 
 #[tactic(auto, unfolding(crate::specs::Tables::link_of, crate::specs::Rules::of1005))]
@@ -104,7 +104,7 @@ pub fn of_1015(notes: &[u8], names: &[u8], l: LinkRow) -> Judgment
 pub fn of_1025(notes: &[u8], names: &[u8], l: LinkRow) -> Judgment
     ensures { result ≡ of1025 (notes_of notes.now names.now) (link_of names.now l) }
 {
-    let parent = l.parent_id?;
+    let parent = l.present_parent_id()?;
     if octets::is_equal(parent, l.file_id) {
         return Some(NONE);
     }

@@ -1,7 +1,7 @@
 // The metadata tables of a sibling listing: its rows by value, whether it is accepted beside a tile listing, and what the rules of 2026-05 say of a row.
 #![tactic(auto)]
 
-ghost use Rattle.std.specs.Prelude.{◌≡◌, map};
+ghost use Rattle.std.specs.Prelude.{◌≡◌, map, cond, eqb, ltb, ◌%◌};
 ghost use Rattle.metadata.specs.Tables.{note_row, link_row, notebook_in};
 ghost use Rattle.metadata.specs.Codes.{judged};
 
@@ -16,7 +16,7 @@ mod scopes;
 mod tables;
 
 pub use codes::{CODE_COUNT, code_at, table_at};
-pub use ready::Ready;
+pub use ready::{Ready, prepare};
 pub use tables::{CONTENTS, LINKS, NAMES, NOTE_NAMES, NOTES, Notebook, SLICE_COUNT, accept, cut};
 
 // 11, gpkg_metadata: a note.
@@ -33,9 +33,27 @@ pub struct LinkRow {
     pub table: Text,
     pub column: Text,
     pub timestamp: Name,
-    pub row_id: Option<u64>,
+    pub row_id: u64,
     pub file_id: u64,
-    pub parent_id: Option<u64>,
+    pub parent_id: u64,
+    pub flags: u32,
+}
+
+// Flags say whether the row id (1) and the parent (2) are present. Methods, since the row has all three numbers as they stand, whatever its flags say.
+impl LinkRow {
+    #[tactic(auto, using(crate::proofs::Laws::unless_flag))]
+    pub fn present_row_id(self) -> Option<u64>
+        ensures { result ≡ cond (eqb (self.flags % 2) 0) None (Some self.row_id) }
+    {
+        (self.flags % 2 != 0).then_some(self.row_id)
+    }
+
+    #[tactic(auto, using(crate::proofs::Laws::from_two))]
+    pub fn present_parent_id(self) -> Option<u64>
+        ensures { result ≡ cond (ltb self.flags 2) None (Some self.parent_id) }
+    {
+        (2 <= self.flags).then_some(self.parent_id)
+    }
 }
 
 // What a link is about.

@@ -48,17 +48,16 @@ impl Row for LinkRow {
         Self::default()
     }
 
-    // Flags say whether the row id (1) and the parent (2) are present.
     fn read(s: &[u8], at: usize) -> Self {
-        let flags = octets::word(s, at + 56);
         LinkRow {
             scope: octets::name_at(s, at),
             table: octets::text_at(s, at + 8),
             column: octets::text_at(s, at + 16),
             timestamp: octets::name_at(s, at + 24),
-            row_id: (flags % 2 != 0).then_some(octets::long(s, at + 32)),
+            row_id: octets::long(s, at + 32),
             file_id: octets::long(s, at + 40),
-            parent_id: (2 <= flags).then_some(octets::long(s, at + 48)),
+            parent_id: octets::long(s, at + 48),
+            flags: octets::word(s, at + 56),
         }
     }
 }

@@ -53,12 +53,14 @@ pub fn put_word(w: &mut [u8], at: usize, x: usize)
     w[at + 3] = (x / 16777216 % 256) as u8;
 }
 
-// Octets put at a place that is there, one after the other.
+// Octets put at a place that is there, one after the other: by `copy_from_slice` the library would need memmove of whoever links it.
 pub fn put_octets(out: &mut [u8], at: usize, octets: &[u8])
     requires { at + length octets.now ≤ length out.old }
     ensures { out.new ≡ sets out.old at octets.now }
 {
-    out[at..at + octets.len()].copy_from_slice(octets);
+    for i in 0..octets.len() {
+        out[at + i] = octets[i];
+    }
 }
 
 // The u32 at any place, 0 past the end.
@@ -97,11 +99,48 @@ pub fn slice_of<'a>(slices: &[&'a [u8]], k: usize) -> &'a [u8]
 
 // ---- texts
 
-// Whether two runs of octets are the same.
-pub fn equal(a: &[u8], b: &[u8]) -> bool
+// From so many octets on the library's `==` is the quicker way to compare; below, it takes up to twice as long as words of eight octets.
+const LONG: usize = 32;
+
+// Whether two runs of octets are the same, by the library. No part of `equal`, which is to be small enough to stand in a search's loop.
+#[inline(never)]
+fn long_equal(a: &[u8], b: &[u8]) -> bool
     ensures { result ≡ same a.now b.now }
 {
     a == b
+}
+
+// Whether two runs of octets, the same before start, are the same.
+fn equal_from(a: &[u8], b: &[u8], start: usize) -> bool
+    requires { Alike a.now b.now start }
+    ensures { result ≡ same a.now b.now }
+{
+    for i in start..a.len() {
+        if a[i] != b[i] {
+            return false;
+        }
+    }
+    true
+}
+
+// Whether two runs of octets are the same. Most names are short: of such, eight octets are one test.
+pub fn equal(a: &[u8], b: &[u8]) -> bool
+    ensures { result ≡ same a.now b.now }
+{
+    if a.len() != b.len() {
+        return false;
+    }
+    if LONG <= a.len() {
+        return long_equal(a, b);
+    }
+    let mut i = 0;
+    while i + 8 <= a.len() {
+        if long(a, i) != long(b, i) {
+            return false;
+        }
+        i += 8;
+    }
+    equal_from(a, b, i)
 }
 
 // What stands in the place of the start of a NULL text.

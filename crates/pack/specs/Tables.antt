@@ -1,12 +1,12 @@
 -- What the octets of the tables mean: "fields in order". A row is first what the code reads, numbers and places of texts;
 -- what that means, with the names, is a row of the pack. Tiles may stand in columns as well.
-use Rattle.std.specs.Prelude.{ℕ, ◌+◌, ◌*◌, ◌/◌, List, [], ◌∷◌, false, cond, ltb, eqb, length, pos, ℤ, Float, Option, Some, None}
+use Rattle.std.specs.Prelude.{ℕ, ◌+◌, ◌*◌, ◌/◌, List, [], ◌∷◌, false, cond, ltb, eqb, length, pos, Float, None}
 use Rattle.std.specs.Float.{fin, binary64}
 use Rattle.std.specs.Float.Ieee.{of_bits}
 use Rattle.octets.specs.Octets.{le32, le64}
 use Rattle.octets.specs.Numbers.{signed}
 use Rattle.octets.specs.Slices.{nth}
-use Rattle.octets.specs.Texts.{Nullable, There, Null, text_at, name_at, spell, reads, octets_of}
+use Rattle.octets.specs.Texts.{There, Null, text_at, name_at, spell, reads, octets_of}
 use Rattle.octets.specs.declared.Name.{Name}
 use Rattle.doubles.specs.declared.Extent.{Extent}
 use Rattle.listing.specs.Listing.{tables_of}
@@ -41,7 +41,8 @@ contents_at s at = record {
   name = name_at s at;
   data_type = name_at s (at + 8);
   last_change = name_at s (at + 16);
-  srs_id = cond (eqb (le32 s (at + 32)) 1) (Some (le64 s (at + 24))) None;
+  srs_id = le64 s (at + 24);
+  flag = le32 s (at + 32);
 }
 
 -- 3: table_name text, srs_id i64, min_x, min_y, max_x, max_y doubles
@@ -88,7 +89,7 @@ abbrev pub no_reference : ReferenceRow
 no_reference = record { srs_id = 0; coordsys_id = 0; organization = no_name; definition = no_name }
 
 abbrev pub no_contents : ContentsRow
-no_contents = record { name = no_name; data_type = no_name; last_change = no_name; srs_id = None }
+no_contents = record { name = no_name; data_type = no_name; last_change = no_name; srs_id = 0; flag = 0 }
 
 abbrev pub no_extent : Extent
 no_extent = record { min_x = zero_double; min_y = zero_double; max_x = zero_double; max_y = zero_double }
@@ -151,17 +152,12 @@ reference_of names r = record {
   definition = spell names r.definition;
 }
 
--- a number that may be NULL, by its pattern
-abbrev pub signed_or_null : Option ℕ → Nullable ℤ
-signed_or_null (Some p) = There (signed p)
-signed_or_null None = Null
-
 unfoldable pub content_of : List ℕ → ContentsRow → Content
 content_of names r = record {
   name = spell names r.name;
   data_type = spell names r.data_type;
   last_change = spell names r.last_change;
-  srs_id = signed_or_null r.srs_id;
+  srs_id = cond (eqb r.flag 1) (There (signed r.srs_id)) Null;
 }
 
 unfoldable pub set_of : List ℕ → SetRow → MatrixSet

@@ -1,7 +1,7 @@
 // The rows of the tables, by value. A number keeps its 64-bit pattern; what a row means is in specs/.
 #![tactic(auto)]
 
-ghost use Rattle.std.specs.Prelude.{◌≡◌};
+ghost use Rattle.std.specs.Prelude.{◌≡◌, cond, eqb};
 ghost use Rattle.pack.specs.Tables.{reference_row, contents_row, set_row, matrix_row, extension_row};
 
 use doubles::Extent;
@@ -33,7 +33,17 @@ pub struct ContentsRow {
     pub name: Name,
     pub data_type: Name,
     pub last_change: Name,
-    pub srs_id: Option<u64>,
+    pub srs_id: u64,
+    pub flag: u32,
+}
+
+impl ContentsRow {
+    // The srs_id, unless it is NULL. A method, since the row has both numbers as they stand, whatever the flag says.
+    pub fn present_srs_id(self) -> Option<u64>
+        ensures { result ≡ cond (eqb self.flag 1) (Some self.srs_id) None }
+    {
+        (self.flag == 1).then_some(self.srs_id)
+    }
 }
 
 #[derive(Clone, Copy, Default)]

@@ -1,5 +1,5 @@
 // The row whose octets stand at a place, field by field. Whoever calls knows that it is there: nothing is tested.
-ghost use Rattle.std.specs.Prelude.{◌≡◌, refl, cond, eqb, ◌+◌, ◌≤◌, length};
+ghost use Rattle.std.specs.Prelude.{◌≡◌, refl, ◌+◌, ◌≤◌, length};
 ghost use Rattle.pack.specs.Tables.{double_at, reference_at, contents_at, extent_at, set_at, matrix_at, tile_at, extension_at, no_reference, no_contents, no_set, no_matrix, no_tile, no_extension};
 ghost use Rattle.pack.specs.Columns.{name_of, entry_at};
 
@@ -14,13 +14,6 @@ fn double_at(s: &[u8], at: usize) -> f64
     ensures { result ≡ double_at s.now at }
 {
     doubles::double_of(octets::long(s, at))
-}
-
-// A number, where its flag is 1.
-fn if_present(flag: u32, x: u64) -> Option<u64>
-    ensures { result ≡ cond (eqb flag 1) (Some x) None }
-{
-    (flag == 1).then_some(x)
 }
 
 impl Row for ReferenceRow {
@@ -72,7 +65,8 @@ impl Row for ContentsRow {
             name: octets::name_at(s, at),
             data_type: octets::name_at(s, at + 8),
             last_change: octets::name_at(s, at + 16),
-            srs_id: if_present(octets::word(s, at + 32), octets::long(s, at + 24)),
+            srs_id: octets::long(s, at + 24),
+            flag: octets::word(s, at + 32),
         }
     }
 }

@@ -8,10 +8,13 @@ use octets::{Name, Text};
 pub fn same_text(names: &[u8], a: Text, b: Text) -> bool
     ensures { result ≡ both_same (reads names.now a) (reads names.now b) }
 {
-    match (a, b) {
-        (Some(x), Some(y)) => octets::same_name(names, x, y),
-        _ => false, // NULL equals nothing
-    }
+    let Some(x) = a else {
+        return false; // NULL equals nothing
+    };
+    let Some(y) = b else {
+        return false;
+    };
+    octets::same_name(names, x, y)
 }
 
 // The octets of a text; none for NULL.

@@ -31,7 +31,7 @@ pub record Walking (f : ℕ → List Finding) (b : List ℕ) (t : Tally) (n i : 
   pub few : length (gather i f) ≤ i
   pub kept : length b' ≡ length b
 
-found-one : (c i : ℕ) (v : Judgment) → length (found c i v) ≤ 1
+pub found-one : (c i : ℕ) (v : Judgment) → length (found c i v) ≤ 1
 found-one c i None = omega arith
 found-one c i (Some j) = omega arith
 
@@ -46,7 +46,7 @@ module _ (f : ℕ → List Finding) (b : List ℕ) (t : Tally) (n : ℕ) where
   pub walk_end : (m i : ℕ) (b' : List ℕ) (t' : Tally) → Walking f b t n i b' t' → n ≤ i → n ≡ m → Added (gather m f) b t b' t'
   walk_end m i b' t' w l e = subst (λ (k : ℕ). Added (gather k f) b t b' t') (le_antisymm w.within l ∙ e) w.added
 
-  walk_more : (c i : ℕ) (b₁ b₂ : List ℕ) (t₁ t₂ : Tally) (v : Judgment) → Walking f b t n i b₁ t₁ → i < n → Added (found c i v) b₁ t₁ b₂ t₂ → length b₂ ≡ length b₁
+  pub walk_more : (c i : ℕ) (b₁ b₂ : List ℕ) (t₁ t₂ : Tally) (v : Judgment) → Walking f b t n i b₁ t₁ → i < n → Added (found c i v) b₁ t₁ b₂ t₂ → length b₂ ≡ length b₁
       → found c i v ≡ f i → Walking f b t n (i + 1) b₂ t₂
   walk_more c i b₁ b₂ t₁ t₂ v w l a k e = record {
     within = add-one-le l;

@@ -1,5 +1,5 @@
 // Answers as words in a buffer.
-ghost use Rattle.std.specs.Prelude.{◌≡◌, ◌+◌, ◌*◌, ◌≤◌, length};
+ghost use Rattle.std.specs.Prelude.{◌≡◌, [], ◌∷◌, ◌+◌, ◌*◌, ◌≤◌, length};
 ghost use Rattle.std.proofs.lemmas.List.Edits.{sets};
 ghost use Rattle.findings.specs.Words.{octets_of, ruling_words, located_words};
 
@@ -14,6 +14,14 @@ pub fn put_words<const N: usize>(answer: &mut [u8], at: usize, words: [usize; N]
     for k in 0..N {
         octets::put_word(answer, at + 4 * k, words[k]);
     }
+}
+
+// A refusal's number, table and row.
+pub fn put_refusal(answer: &mut [u8], at: usize, number: u32, table: u32, row: u32)
+    requires { at + 12 ≤ length answer.old }
+    ensures { answer.new ≡ sets answer.old at (octets_of (number ∷ table ∷ row ∷ [])) }
+{
+    put_words(answer, at, [number as usize, table as usize, row as usize]);
 }
 
 // A verdict's five words.

@@ -10,7 +10,7 @@ mod search;
 mod tiles;
 mod walk;
 
-pub use answers::{put_located, put_ruling, put_words};
+pub use answers::{put_located, put_refusal, put_ruling, put_words};
 pub use full::{report, report_columns};
 pub use notes::report_metadata;
 pub use rulings::verdict;

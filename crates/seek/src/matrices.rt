@@ -74,6 +74,8 @@ fn is_finer(names: &[u8], m: MatrixRow, q: MatrixRow) -> bool
     doubles::is_finer(m.pixel_x, q.pixel_x) && doubles::is_finer(m.pixel_y, q.pixel_y)
 }
 
+// A search has it in its loop: as a call for every two matrices of a name it takes twice the time, since each row goes through memory.
+#[inline(always)]
 #[tactic(auto, unfolding(rules::specs::Matrices::breaks531, pack::specs::Tables::matrix_of))]
 pub fn breaks_531(names: &[u8], m: MatrixRow, q: MatrixRow) -> bool
     ensures { result ≡ breaks531 (matrix_of names.now m) (matrix_of names.now q) }

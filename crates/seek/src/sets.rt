@@ -20,7 +20,8 @@ pub fn set_named(names: &[u8], x: Name, q: SetRow) -> bool
 fn is_id(names: &[u8], c: ContentsRow, id: u64) -> bool
     ensures { result ≡ is_id (content_of names.now c).srs_id (signed id) }
 {
-    c.srs_id.is_some_and(|own| octets::is_equal(own, id))
+    c.present_srs_id()
+        .is_some_and(|own| octets::is_equal(own, id))
 }
 
 #[tactic(auto, unfolding(rules::specs::Contents::breaks162, pack::specs::Tables::set_of, pack::specs::Tables::content_of))]

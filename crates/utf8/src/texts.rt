@@ -199,7 +199,7 @@ impl<'a> Marked<'a> {
 
 // Where the stretch ends that the octets begin with, or 0.
 #[tactic(auto, using(crate::proofs::Laws::heads))]
-fn head_of(s: &[u8], marks: &[u32; MARK_COUNT]) -> usize
+pub fn head_of(s: &[u8], marks: &[u32; MARK_COUNT]) -> usize
     requires { Marks s.now marks.now }
     ensures { Head s.now result }
 {

@@ -1,11 +1,17 @@
 -- `octets::equal` meets its contract.
-use Rattle.std.proofs.Common.{sym}
-use Rattle.std.specs.Bool.{one_answer}
-use Rattle.std.specs.Cmp.{unsigned_Decides}
-use Rattle.std.proofs.lemmas.Slice.Eq.{slice_eq-Decides}
-use Rattle.octets.proofs.TextLaws.{same_equal, equal_same}
+use Rattle.octets.proofs.TextLaws.{unlike-length, unlike_eight}
+use Rattle.octets.specs.TextLaws.{alike-start, alike_eight}
+use borrow.Author.Rules.{rules}
 use Rattle.octets.proofs.equal.Goals as goal
 
-pub returns : goal.returns
-returns c = one_answer _ _ (slice_eq-Decides unsigned_Decides c.args.a.now c.args.b.now _ c.eq.ensures)
-    (same_equal c.args.a.now c.args.b.now, λ e. sym (equal_same _ _ e))
+pub returns-then-a-b : goal.returns-then-a-b
+returns-then-a-b c = search (unlike-length, rules)
+
+pub loop-i-init : goal.loop-i-init
+loop-i-init c = search (alike-start, rules)
+
+pub returns-then-long : goal.returns-then-long
+returns-then-long c = search (unlike_eight, rules)
+
+pub loop-i-preserved : goal.loop-i-preserved
+loop-i-preserved c = search (alike_eight, rules)

@@ -1,10 +1,14 @@
 -- `octets::put_octets` meets its contract.
-use Rattle.std.proofs.Common.{arith, length, refl, le_refl}
-use Rattle.std.proofs.lemmas.Slice.{put_mid-paste}
-use Rattle.octets.specs.BufferLaws.{put_whole}
+use lib.ListN.{length-set}
+use Rattle.octets.specs.BufferLaws.{put-none, put-more, put_whole}
+use borrow.Author.Rules.{rules}
 use Rattle.octets.proofs.put_octets.Goals as goal
 
+pub loop-i-init : goal.loop-i-init
+loop-i-init c = search (put-none, rules)
+
+pub loop-i-preserved : goal.loop-i-preserved
+loop-i-preserved c = search (put-more, length-set, rules)
+
 pub returns : goal.returns
-returns c =
-    put_whole _ _ _ (length c.args.octets.now) _ (put_mid-paste _ _ _ _ c.args.octets.now _ c.copy_from_slice.ensures.after (omega arith) refl) (le_refl _)
-    (le_refl _) c.requires
+returns c = search (put_whole, rules)

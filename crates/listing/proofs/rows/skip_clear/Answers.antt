@@ -4,17 +4,17 @@ use Rattle.listing.proofs.Laws.{room-step, room-place, room-name}
 use borrow.Author.Rules.{rules}
 use Rattle.listing.proofs.rows.skip_clear.Goals as goal
 
-pub returns-then-shape-ne1 : goal.returns-then-shape-ne1
-returns-then-shape-ne1 c = search (passed_none, rules)
+pub returns-then-texts-ne1 : goal.returns-then-texts-ne1
+returns-then-texts-ne1 c = search (passed_none, rules)
 
 pub loop-c-init : goal.loop-c-init
 loop-c-init c = search (passed_none, rules)
 
-pub overflow_mul-shape : goal.overflow_mul-shape
-overflow_mul-shape c = search (room-step, rules)
+pub overflow_mul-size : goal.overflow_mul-size
+overflow_mul-size c = search (room-step, rules)
 
-pub overflow_add-shape : goal.overflow_add-shape
-overflow_add-shape c = search (room-place, rules)
+pub overflow_add-size : goal.overflow_add-size
+overflow_add-size c = search (room-place, rules)
 
 pub name_by-here-requires : goal.name_by-here-requires
 name_by-here-requires c = search (room-name, rules)

@@ -8,4 +8,4 @@ use Rattle.metadata.proofs.judging.of_995.Goals as goal
 
 pub returns : goal.returns
 unfolding link_of of995
-returns c = simp (← c.scope_of.ensures, ← c.wants_no_row.ensures) (c.fault_if.ensures ∙ ap fault_if (wrong_null _ _ _ _ c.is_none.ensures (some_number _)))
+returns c = simp (← c.scope_of.ensures, ← c.wants_no_row.ensures) (c.fault_if.ensures ∙ ap fault_if (wrong_null _ _ _ _ c.is_none.ensures (some_number _ _ _ c.present_row_id.ensures)))

@@ -1,6 +1,6 @@
 -- `report::buffer::add_rows` meets its contract.
 use borrow.Author.Rules.{rules}
-use Rattle.report.proofs.Gathering.{gather_start, gather-room, gather_more}
+use Rattle.report.proofs.Gathering.{gather_start, gather-room, gather_more, gather_end}
 use Rattle.report.proofs.buffer.add_rows.Goals as goal
 
 pub loop-i-init : goal.loop-i-init
@@ -11,3 +11,6 @@ add-tally-requires g c = search (gather-room, rules)
 
 pub loop-i-preserved : goal.loop-i-preserved
 loop-i-preserved g c = search (gather_more, rules)
+
+pub returns : goal.returns
+returns g c = search (gather_end, rules)

@@ -3,4 +3,4 @@ use Rattle.report.proofs.Gathering.{Gathering}
 use Rattle.report.proofs.buffer.add_rows.Given as goal
 
 abbrev pub invariant-loop-i : goal.invariant-loop-i
-invariant-loop-i g l = Gathering (goal.F-post g l.rule) l.code l.initial.out l.initial.tally l.i l.out l.tally
+invariant-loop-i g l = Gathering (goal.F-post g l.rule) l.code l.initial.out l.initial.tally l.n l.i l.out l.tally

@@ -25,4 +25,4 @@ word-requires c = search rules
 
 pub returns : goal.returns
 unfolding contents_at
-returns c = simp (c.name_at.ensures, c.name_at-2.ensures, c.name_at-3.ensures, c.if_present.ensures, c.word.ensures, c.long.ensures)
+returns c = simp (c.name_at.ensures, c.name_at-2.ensures, c.name_at-3.ensures, c.long.ensures, c.word.ensures)
