@@ -223,6 +223,17 @@ def sanitizers() -> str:
     return ran.out.strip()
 
 
+@needs_library
+class Archive(unittest.TestCase):
+    def test_it_needs_memset_alone(self) -> None:
+        """So a program without a C library has one function to bring."""
+        ran = Ran(["nm", "--undefined-only", "--format=posix", library.archive(may_build=False)])
+        if "format not recognized" in ran.err:
+            self.skipTest("nm of this machine reads no x86-64 code")
+        self.assertEqual(ran.status, 0, ran.err)
+        self.assertEqual(re.findall(r"^(\S+) U ", ran.out, re.M), ["memset"])
+
+
 def is_in_proved_code() -> bool:
     return sanitizers().startswith("AddressSanitizer in the proved code")
 

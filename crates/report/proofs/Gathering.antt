@@ -8,7 +8,7 @@ use Rattle.report.specs.Walks.{Gathers}
 use Rattle.report.specs.WalkLaws.{Walking, found-one, walk_start, walk_more, walk_end}
 use Rattle.report.specs.declared.Tally.{Tally}
 
--- it has come to row i of n; that a finding of each row before it has been added at the most holds where nothing says the same twice, too
+-- it has come to row i of n. The bound stands apart: it holds where there is no one f that the rule says, too
 pub record Gathering (says : ℕ → Judgment → Type 0) (code : ℕ) (b : List ℕ) (t : Tally) (n i : ℕ) (b' : List ℕ) (t' : Tally) : Type 0 where
   pub walks : (f : ℕ → Judgment) → ((j : ℕ) (v : Judgment) → j < i → says j v → v ≡ f j) → Walking (λ j. found code j (f j)) b t n i b' t'
   pub few : t'.total ≤ t.total + i
