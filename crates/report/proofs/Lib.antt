@@ -1,4 +1,5 @@
 pub mod Adding
+pub mod RuleWalking
 pub mod Gathering
 pub mod Codes
 pub mod Looking

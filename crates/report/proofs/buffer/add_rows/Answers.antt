@@ -1,16 +1,17 @@
 -- `report::buffer::add_rows` meets its contract.
 use borrow.Author.Rules.{rules}
-use Rattle.report.proofs.Gathering.{gather_start, gather-room, gather_more, gather_end}
+use Rattle.report.proofs.RuleWalking.{rule_start, rule-room, rule_more}
+use Rattle.report.proofs.Gathering.{gather_end}
 use Rattle.report.proofs.buffer.add_rows.Goals as goal
 
 pub loop-i-init : goal.loop-i-init
-loop-i-init g c = search (gather_start, rules)
+loop-i-init g c = search (rule_start, rules)
 
 pub add-tally-requires : goal.add-tally-requires
-add-tally-requires g c = search (gather-room, rules)
+add-tally-requires g c = search (rule-room, rules)
 
 pub loop-i-preserved : goal.loop-i-preserved
-loop-i-preserved g c = search (gather_more, rules)
+loop-i-preserved g c = search (rule_more, rules)
 
 pub returns : goal.returns
 returns g c = search (gather_end, rules)
