@@ -1,5 +1,4 @@
 pub mod Adding
-pub mod RuleWalking
 pub mod Gathering
 pub mod Codes
 pub mod Looking

@@ -1,7 +1,6 @@
 -- `report::buffer::add_rows` meets its contract.
 use borrow.Author.Rules.{rules}
-use Rattle.report.proofs.RuleWalking.{rule_start, rule-room, rule_more}
-use Rattle.report.proofs.Gathering.{gather_end}
+use Rattle.report.proofs.Gathering.{rule_start, rule-room, rule_more, gather_end}
 use Rattle.report.proofs.buffer.add_rows.Goals as goal
 
 pub loop-i-init : goal.loop-i-init

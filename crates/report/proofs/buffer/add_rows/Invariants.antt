@@ -1,5 +1,5 @@
 -- What the loop of `report::buffer::add_rows` keeps.
-use Rattle.report.proofs.RuleWalking.{RuleWalking}
+use Rattle.report.proofs.Gathering.{RuleWalking}
 use Rattle.report.proofs.buffer.add_rows.Given as goal
 
 abbrev pub invariant-loop-i : goal.invariant-loop-i
